@@ -4,3 +4,4 @@ pub mod WeightList
 pub mod Validity
 pub mod Tallies
 pub mod Wishes
+pub mod Examples

@@ -1,5 +1,6 @@
 // Theorems over every rule.
 ghost use Rattle.sets.specs.Rules.{Ground};
+ghost use Rattle.quorum.specs.Examples.{RuleExamples};
 ghost use Rattle.quorum.specs.Wishes.{Views};
 use crate::rules::QuorumRule;
 
@@ -11,4 +12,9 @@ pub fn quorums_stand<Q: QuorumRule>(rule: &Q)
 // Hopeful and settled are the highest views, and settled is at most hopeful.
 pub fn views_stand<Q: QuorumRule>(rule: &Q)
     ensures { λ _. ⌜ Views (meaning (now (rule .entry))) ⌝ }
+{}
+
+// The worked examples.
+pub fn rule_examples_stand()
+    ensures { λ _. ⌜ RuleExamples ⌝ }
 {}

@@ -30,10 +30,7 @@ impl<'a> Weights<'a> {
     pub fn four_equal() -> Weights<'a>
         ensures { λ r. ⌜ behind (r .list) ≡ 1 ∷ 1 ∷ 1 ∷ 1 ∷ [] ⌝ }
     {
-        Weights {
-            list: &[1, 1, 1, 1],
-            total: 4,
-        }
+        Weights::of(four_ones(), 4)
     }
 
     // Puts the rule of another list in the place of this one. A refusal leaves this one.
@@ -74,6 +71,12 @@ pub impl<'a> QuorumRule for Weights<'a> as WeightsRule {
     fn is_blocking(&self, set: ProcessSet) -> bool {
         is_a_third(weigh(self.list, set), self.total)
     }
+}
+
+fn four_ones() -> &'static [u32]
+    ensures { λ r. ⌜ now r ≡ 1 ∷ 1 ∷ 1 ∷ 1 ∷ [] ⌝ }
+{
+    &[1, 1, 1, 1]
 }
 
 // The total weight of a list that makes a rule.

@@ -2,6 +2,7 @@
 ghost use mathlib.Core.Path.{_≡_};
 ghost use Prim.Native.Nat.{_-_, _%_, _^_, _<_, min};
 ghost use lib.Bits.{bitOr};
+ghost use lib.Count.{ones};
 ghost use Rattle.sets.specs.Sets.{bit, has, joined, below, others};
 ghost use Rattle.sets.specs.Weighing.{count};
 
@@ -63,7 +64,7 @@ impl ProcessSet {
     pub fn count(self, n: u8) -> u32
         ensures { λ r. ⌜ r ≡ count n (self .bits) ⌝ }
     {
-        self.below(n).bits.count_ones()
+        count_bits(self.below(n).bits)
     }
 }
 
@@ -93,4 +94,10 @@ fn turned(bits: u32) -> u32
     ensures { λ r. ⌜ r ≡ 2 ^ 32 - 1 - bits ⌝ }
 {
     !bits
+}
+
+fn count_bits(bits: u32) -> u32
+    ensures { λ r. ⌜ r ≡ ones bits ⌝ }
+{
+    bits.count_ones()
 }

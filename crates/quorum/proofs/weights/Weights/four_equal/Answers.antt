@@ -1,19 +1,13 @@
-use Prim.Native.Nat.{ℕ, zero, suc, _≤_}
-use mathlib.Core.Path.{refl}
-use mathlib.Core.List.{[], _∷_}
-use native.Mathlib.Omega.{arith}
-use lib.Dec.{lit≤}
+use Prim.Native.Nat.{ℕ}
+use mathlib.Core.Path.{_≡_, refl, sym, ap, _∙_}
+use Rattle.std.specs.declared.option.Option.the-variants.{None}
 use Rattle.sets.specs.Weighing.{weigh}
-use Rattle.quorum.specs.WeightList.{weight-at}
+use Rattle.quorum.specs.WeightList.{weights-fault, total-of}
+use Rattle.quorum.proofs.Loads.{load}
 use Rattle.quorum.proofs.weights.Weights.four_equal.Needs as need
 
-light : (j : ℕ) → weight-at (1 ∷ 1 ∷ 1 ∷ 1 ∷ []) j ≤ 1000000
-light zero = lit≤ tt
-light (suc zero) = lit≤ tt
-light (suc (suc zero)) = lit≤ tt
-light (suc (suc (suc zero))) = lit≤ tt
-light (suc (suc (suc (suc j)))) = lit≤ tt
-
-pub ghost-result : need.ghost-result
-unfolding weigh
-ghost-result c = (lit≤ tt, (lit≤ tt, (light, (refl, (lit≤ tt, tt)))))
+pub of-requires : need.of-requires
+unfolding weigh weights-fault
+of-requires c κs =
+    let l = load (c .four-ones .result .now) (ap weights-fault (c .four-ones .ensures)) in
+    record { some = l .some; few = l .few; light = l .light; whole = sym (ap total-of (c .four-ones .ensures)); weighty = l .weighty }

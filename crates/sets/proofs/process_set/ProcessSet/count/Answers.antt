@@ -4,4 +4,4 @@ use Rattle.sets.proofs.Counts.{ones-below}
 use Rattle.sets.proofs.process_set.ProcessSet.count.Needs as need
 
 pub returns : need.returns
-returns c = ap ones (c .below .ensures) ∙ ones-below (c .args .n) (c .args .self .bits)
+returns c = c .count-bits .ensures ∙ ap ones (c .below .ensures) ∙ ones-below (c .args .n) (c .args .self .bits)
