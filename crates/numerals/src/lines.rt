@@ -1,5 +1,6 @@
 // Whole lines.
 ghost use mathlib.Core.Path.{_≡_};
+ghost use mathlib.Core.List.{[]};
 ghost use Rattle.std.specs.Of.Vec.{vec-items};
 ghost use Rattle.std.specs.Options.{mapped};
 ghost use Rattle.std.specs.Vec.{made};
@@ -24,10 +25,7 @@ pub fn read_line(heap: Global, line: &[u8]) -> Result<Option<Line>, AllocError>
     }
     let letter = line[0];
     if line.len() == 1 {
-        return Ok(Some(Line {
-            letter,
-            numbers: Vec::new(heap),
-        }));
+        return Ok(Some(bare(heap, letter)));
     }
     if line[1] != b' ' {
         return Ok(None);
@@ -38,8 +36,19 @@ pub fn read_line(heap: Global, line: &[u8]) -> Result<Option<Line>, AllocError>
     }
 }
 
+// The line of one byte.
+fn bare(heap: Global, byte: u8) -> Line
+    ensures letter { λ r. ⌜ r .letter ≡ byte ⌝ }
+    ensures numbers { λ r. ⌜ vec-items (r .numbers) ≡ [] ⌝ }
+{
+    Line {
+        letter: byte,
+        numbers: Vec::new(heap),
+    }
+}
+
 // The numbers of a line of numbers, one space between each two.
-pub fn read_numbers(heap: Global, line: &[u8]) -> Result<Option<Vec<u64>>, AllocError>
+fn read_numbers(heap: Global, line: &[u8]) -> Result<Option<Vec<u64>>, AllocError>
     ensures { λ r. ⌜ made r (λ o. mapped vec-items o ≡ numbers (now (line .entry))) ⌝ }
 {
     let mut found = Vec::new(heap);

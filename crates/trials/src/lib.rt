@@ -1,0 +1,13 @@
+// Tests of the crates below, by tables of cases.
+#[cfg(test)]
+mod counting;
+#[cfg(test)]
+mod lines;
+#[cfg(test)]
+mod process_sets;
+#[cfg(test)]
+mod validity;
+#[cfg(test)]
+mod views;
+#[cfg(test)]
+mod weights;
