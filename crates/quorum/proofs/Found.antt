@@ -2,6 +2,7 @@
 --     first-more, first-here      a slot without a fault; the slot of the first one
 --     none-below                  no fault below n: none at each slot
 --     none-from-ok, ok-value, some-from-err     what an answer tells
+--     exits                       what is answered where a `?` leaves
 use Prim.Native.Nat.{ℕ, zero, suc, _+_, _<_, _≤_}
 use mathlib.Core.Path.{_≡_, refl, sym, ap, _∙_}
 use mathlib.Core.Logic.{⊎-elim}
@@ -9,7 +10,10 @@ use native.Mathlib.Numerals.{add-one}
 use native.Mathlib.Omega.{arith}
 use Rattle.std.specs.declared.option.Option.{Option}
 use Rattle.std.specs.declared.option.Option.the-variants.{Some, None}
+use Rattle.std.specs.declared.result.Result.{Result}
 use Rattle.std.specs.declared.result.Result.the-variants.{Ok, Err}
+use Rattle.std.specs.Results.{ErrBy}
+use Rattle.std.proofs.shelf.Results.{err-from-errBy}
 use Rattle.std.proofs.shelf.Tests.{cases-lt}
 use Rattle.quorum.specs.Firsts.{first, first-below, answered}
 
@@ -25,6 +29,10 @@ module _ {F X : Type 0} where
   pub some-from-err : (o : Option F) (x : X) (e : F) → Err e ≡ answered o x → o ≡ Some e
   some-from-err None x e h = let z : _≡_ {A = ℕ} 0 1 = cc in absurd (omega arith)
   some-from-err (Some d) x e h = cc
+
+  -- what is returned where a `?` leaves
+  pub exits : (r : Result X F) (e : F) (o : Option F) (x : X) → ErrBy r (λ y. y ≡ e) → o ≡ Some e → r ≡ answered o x
+  exits r e o x h s = let p = err-from-errBy r h in rw (p .1, p .2, s)
 
 module _ {F : Type 0} where
   pub both-none : (a b : Option F) → first a b ≡ None → (a ≡ None) × (b ≡ None)

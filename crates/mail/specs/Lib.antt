@@ -1,0 +1,5 @@
+pub mod Messages
+pub mod Leaders
+pub mod Numbers
+pub mod Judging
+pub mod Posting
