@@ -1,3 +1,5 @@
 pub mod Places
 pub mod Votes
 pub mod Citations
+pub mod Locks
+pub mod Judged

@@ -3,3 +3,4 @@ pub mod Leaders
 pub mod Numbers
 pub mod Judging
 pub mod Posting
+pub mod Trust

@@ -8,3 +8,4 @@ pub mod place;
 pub mod posting;
 pub mod proposal;
 pub mod report;
+pub mod claims;

@@ -1,11 +1,14 @@
 -- The first fault of a run of slots, as a loop over the slots finds it. Assumes nothing.
 --     first-more, first-here      a slot without a fault; the slot of the first one
---     none-below                  no fault below n: none at each slot
+--     none-below, below-none      no fault below n: none at each slot, and back
+--     both-none, none-both        no fault in two tests
+--     faultless, holds-then       no fault: the test fails, or the fact that is asked for holds
 --     none-from-ok, ok-value, some-from-err     what an answer tells
 --     exits                       what is answered where a `?` leaves
 use Prim.Native.Nat.{ℕ, zero, suc, _+_, _<_, _≤_}
 use mathlib.Core.Path.{_≡_, refl, sym, ap, _∙_}
 use mathlib.Core.Logic.{⊎-elim}
+use mathlib.Core.Bool.{Bool, true, false, not}
 use native.Mathlib.Numerals.{add-one}
 use native.Mathlib.Omega.{arith}
 use Rattle.std.specs.declared.option.Option.{Option}
@@ -14,8 +17,8 @@ use Rattle.std.specs.declared.result.Result.{Result}
 use Rattle.std.specs.declared.result.Result.the-variants.{Ok, Err}
 use Rattle.std.specs.Results.{ErrBy}
 use Rattle.std.proofs.shelf.Results.{err-from-errBy}
-use Rattle.std.proofs.shelf.Tests.{cases-lt}
-use Rattle.quorum.specs.Firsts.{first, first-below, answered}
+use Rattle.std.proofs.shelf.Tests.{cases-lt, false≢true}
+use Rattle.quorum.specs.Firsts.{fault-if, first, first-below, answered}
 
 module _ {F X : Type 0} where
   pub none-from-ok : (o : Option F) (x y : X) → Ok y ≡ answered o x → o ≡ None
@@ -39,6 +42,17 @@ module _ {F : Type 0} where
   both-none None b h = (refl, h)
   both-none (Some e) b h = let z : _≡_ {A = ℕ} 0 1 = cc in absurd (omega arith)
 
+  pub none-both : (a b : Option F) → a ≡ None → b ≡ None → first a b ≡ None
+  none-both a b p q = rw (p, q)
+
+  pub faultless : (b : Bool) (e : F) → fault-if b e ≡ None → b ≡ false
+  faultless false e h = refl
+  faultless true e h = let z : _≡_ {A = ℕ} 0 1 = cc in absurd (omega arith)
+
+  pub holds-then : (b : Bool) (e : F) → (fault-if (not b) e ≡ None → b ≡ true) × (b ≡ true → fault-if (not b) e ≡ None)
+  holds-then true e = ((λ _. refl), (λ _. refl))
+  holds-then false e = ((λ h. let z : _≡_ {A = ℕ} 0 1 = cc in absurd (omega arith)), (λ h. absurd (false≢true h)))
+
   pub first-more : (f : ℕ → Option F) (j : ℕ) → first-below f j ≡ None → f j ≡ None → first-below f (j + 1) ≡ None
   first-more f j p q = rw (add-one, p, q)
 
@@ -51,6 +65,10 @@ module _ {F : Type 0} where
       let p′ : first-below f n ≡ None = rw s at p in
       let q′ : f n ≡ Some e = rw s at q in rw (p′, q′))
       (cases-lt j n)
+
+  pub below-none : (f : ℕ → Option F) (n : ℕ) → ((j : ℕ) → j < n → f j ≡ None) → first-below f n ≡ None
+  below-none f zero h = refl
+  below-none f (suc n) h = none-both (first-below f n) (f n) (below-none f n (λ j l. h j (omega arith))) (h n (omega arith))
 
   pub none-below : (f : ℕ → Option F) (n : ℕ) → first-below f n ≡ None → (j : ℕ) → j < n → f j ≡ None
   none-below f zero h j l = absurd (omega arith)

@@ -22,11 +22,7 @@ use Rattle.sets.proofs.Sums.{weigh-same}
 use Rattle.quorum.specs.Firsts.{fault-if, first-below}
 use Rattle.quorum.specs.WeightList.{weight-at, total-of, weights-rule, weights-fault, count-fault, heavy-fault, total-fault}
 use Rattle.quorum.specs.declared.faults.RuleFault.{RuleFault}
-use Rattle.quorum.proofs.Found.{both-none, none-below, first-here}
-
-fault-if-none : {F : Type 0} (b : Bool) (e : F) → fault-if b e ≡ None → b ≡ false
-fault-if-none false e h = refl
-fault-if-none true e h = let z : _≡_ {A = ℕ} 0 1 = cc in absurd (omega arith)
+use Rattle.quorum.proofs.Found.{both-none, none-below, first-here, faultless}
 
 -- which fault is the first
 module _ (xs : List ℕ) where
@@ -44,12 +40,12 @@ module _ (xs : List ℕ) where
 
 pub counted : (n : ℕ) → count-fault n ≡ None → (1 ≤ n) × (n ≤ 32)
 counted n h =
-    let ab = and-parts (leb 1 n) (leb n 32) (not-false (leb 1 n && leb n 32) (fault-if-none _ _ h)) in
+    let ab = and-parts (leb 1 n) (leb n 32) (not-false (leb 1 n && leb n 32) (faultless _ _ h)) in
     (leb-true 1 n (ab .0), leb-true n 32 (ab .1))
 
 pub lightened : (xs : List ℕ) → first-below (heavy xs) (length xs) ≡ None → (j : ℕ) → weight-at xs j ≤ 1000000
 lightened xs h j =
-    ⊎-elim (λ (l : j < length xs). ltb-false 1000000 (weight-at xs j) (fault-if-none _ _ (none-below (heavy xs) (length xs) h j l)))
+    ⊎-elim (λ (l : j < length xs). ltb-false 1000000 (weight-at xs j) (faultless _ _ (none-below (heavy xs) (length xs) h j l)))
     (λ (g : length xs ≤ j). let z = getD-past xs j 0 g in omega arith)
     (cases-lt j (length xs))
 
@@ -65,7 +61,7 @@ load xs h =
     let a = both-none (count-fault (length xs)) _ h in
     let b = both-none (first-below (heavy xs) (length xs)) (total-fault (total-of xs)) (a .1) in
     let c = counted (length xs) (a .0) in
-    let t = eqb-false (total-of xs) 0 (fault-if-none _ _ (b .1)) in
+    let t = eqb-false (total-of xs) 0 (faultless _ _ (b .1)) in
     record { some = c .0; few = c .1; light = lightened xs (b .0); weighty = omega arith }
 
 -- all counts and weights are right, and the set s of all processes was found to weigh w
