@@ -30,10 +30,10 @@ module _ (M : ℕ → Message) (places : List ℕ) where
   top-at (suc n) =
       ⊎-elim (λ (l : top-lock M places n < lock-at n). inr (n, omega arith, omega arith))
       (λ (g : lock-at n ≤ top-lock M places n).
-        let e : max (top-lock M places n) (lock-at n) ≡ top-lock M places n = omega arith in
-        ⊎-elim (λ (z : top-lock M places n ≡ 0). inl (e ∙ z))
-        (λ (r : (j : ℕ) × (j < n) × (lock-at j ≡ top-lock M places n)). inr (r .0, omega (arith, r .1), r .2 ∙ sym e))
-        (top-at n))
+      let e : max (top-lock M places n) (lock-at n) ≡ top-lock M places n = omega arith in
+      ⊎-elim (λ (z : top-lock M places n ≡ 0). inl (e ∙ z))
+      (λ (r : (j : ℕ) × (j < n) × (lock-at j ≡ top-lock M places n)). inr (r .0, omega (arith, r .1), r .2 ∙ sym e))
+      (top-at n))
       (cases-lt (top-lock M places n) (lock-at n))
 
   module _ (h a : ℕ) where
@@ -51,6 +51,6 @@ module _ (M : ℕ → Message) (places : List ℕ) where
     carries-from (suc n) j l p =
         ⊎-elim (λ (k : j < n). or-left (carries M places h a n) (has-lock h a (M (place-at places n))) (carries-from n j k p))
         (λ (g : n ≤ j).
-          let e : j ≡ n = omega arith in
-          or-right (carries M places h a n) (has-lock h a (M (place-at places n))) (subst (λ (i : ℕ). has-lock h a (M (place-at places i)) ≡ true) e p))
+        let e : j ≡ n = omega arith in
+        or-right (carries M places h a n) (has-lock h a (M (place-at places n))) (subst (λ (i : ℕ). has-lock h a (M (place-at places i)) ≡ true) e p))
         (cases-lt j n)

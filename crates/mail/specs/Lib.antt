@@ -4,3 +4,4 @@ pub mod Numbers
 pub mod Judging
 pub mod Posting
 pub mod Trust
+pub mod Examples

@@ -2,7 +2,7 @@
 ghost use mathlib.Core.Path.{_≡_};
 ghost use mathlib.Core.Bool.{not};
 ghost use Rattle.quorum.specs.Firsts.{answered, fault-if};
-ghost use Rattle.mail.specs.Numbers.{certificate-numbers, report-numbers, proposal-numbers};
+ghost use Rattle.mail.specs.Numbers.{certificate-numbers, four-numbers, proposal-numbers, report-numbers};
 ghost use Rattle.mail.specs.declared.faults.ReportFault.the-variants.{InCertificate};
 ghost use Rattle.mail.specs.declared.faults.ProposalFault.the-variants.{InReport};
 use quorum::faults::FaultNumbers;
@@ -57,18 +57,8 @@ impl CertificateFault {
         ensures { λ r. ⌜ r ≡ certificate-numbers self ⌝ }
     {
         match self {
-            CertificateFault::NoQuorum { place } => FaultNumbers {
-                number: 20,
-                layer: 1,
-                place,
-                slot: 32,
-            },
-            CertificateFault::WrongMessage { place, slot } => FaultNumbers {
-                number: 21,
-                layer: 1,
-                place,
-                slot,
-            },
+            CertificateFault::NoQuorum { place } => four(20, 1, place, 32),
+            CertificateFault::WrongMessage { place, slot } => four(21, 1, place, slot),
         }
     }
 }
@@ -78,12 +68,7 @@ impl ReportFault {
         ensures { λ r. ⌜ r ≡ report-numbers self ⌝ }
     {
         match self {
-            ReportFault::LockNotBelow { place } => FaultNumbers {
-                number: 22,
-                layer: 2,
-                place,
-                slot: 32,
-            },
+            ReportFault::LockNotBelow { place } => four(22, 2, place, 32),
             ReportFault::InCertificate(fault) => fault.numbers(),
         }
     }
@@ -94,37 +79,12 @@ impl ProposalFault {
         ensures { λ r. ⌜ r ≡ proposal-numbers self ⌝ }
     {
         match self {
-            ProposalFault::NotLeader { place } => FaultNumbers {
-                number: 23,
-                layer: 3,
-                place,
-                slot: 32,
-            },
-            ProposalFault::NotValid { place } => FaultNumbers {
-                number: 24,
-                layer: 3,
-                place,
-                slot: 32,
-            },
-            ProposalFault::TooFewReports { place } => FaultNumbers {
-                number: 25,
-                layer: 3,
-                place,
-                slot: 32,
-            },
-            ProposalFault::NotReport { place, slot } => FaultNumbers {
-                number: 26,
-                layer: 3,
-                place,
-                slot,
-            },
+            ProposalFault::NotLeader { place } => four(23, 3, place, 32),
+            ProposalFault::NotValid { place } => four(24, 3, place, 32),
+            ProposalFault::TooFewReports { place } => four(25, 3, place, 32),
+            ProposalFault::NotReport { place, slot } => four(26, 3, place, slot),
             ProposalFault::InReport(fault) => fault.numbers(),
-            ProposalFault::NotHighest { place } => FaultNumbers {
-                number: 27,
-                layer: 3,
-                place,
-                slot: 32,
-            },
+            ProposalFault::NotHighest { place } => four(27, 3, place, 32),
         }
     }
 }
@@ -134,4 +94,15 @@ pub(crate) fn check<F: Copy>(holds: bool, fault: F) -> Result<(), F>
     ensures { λ r. ⌜ r ≡ answered (fault-if (not holds) fault) tt ⌝ }
 {
     if holds { Ok(()) } else { Err(fault) }
+}
+
+fn four(number: u8, layer: u8, place: u16, slot: u8) -> FaultNumbers
+    ensures { λ r. ⌜ r ≡ four-numbers number layer place slot ⌝ }
+{
+    FaultNumbers {
+        number,
+        layer,
+        place,
+        slot,
+    }
 }

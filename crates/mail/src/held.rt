@@ -15,7 +15,7 @@ pub impl EntryTest<u16> for Held as HeldTest {
     ghost accepts = { λ _ place. held place };
 
     fn passes(&self, entry: u16) -> bool {
-        entry != 0
+        entry > 0
     }
 }
 
