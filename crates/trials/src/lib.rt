@@ -4,6 +4,12 @@ mod counting;
 #[cfg(test)]
 mod lines;
 #[cfg(test)]
+mod mail_judging;
+#[cfg(test)]
+mod mail_places;
+#[cfg(test)]
+mod posting;
+#[cfg(test)]
 mod process_sets;
 #[cfg(test)]
 mod validity;

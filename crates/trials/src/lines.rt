@@ -15,33 +15,38 @@ fn last_of(heap: Global, line: &[u8]) -> Result<Option<(usize, u64)>, AllocError
     }
 }
 
-#[test]
-fn are_read(rt: LibcRuntime) -> Result<(), Fail> {
-    let heap = rt.alloc();
-    check_eq(last_of(heap, b"S")?, Some((0, 0)))?;
-    check_eq(last_of(heap, b"X 0")?, Some((1, 0)))?;
-    check_eq(last_of(heap, b"X 10 0 907")?, Some((3, 907)))?;
-    check_eq(
-        last_of(heap, b"W 18446744073709551615")?,
+// A line, and how many numbers it has and the last one; None where it is no line.
+struct Case(&'static [u8], Option<(usize, u64)>);
+
+const CASES: [Case; 18] = [
+    Case(b"S", Some((0, 0))),
+    Case(b"X 0", Some((1, 0))),
+    Case(b"X 10 0 907", Some((3, 907))),
+    Case(
+        b"W 18446744073709551615",
         Some((1, 18_446_744_073_709_551_615)),
-    )?;
-    check_eq(last_of(heap, b"  1")?, Some((1, 1)))
-}
+    ),
+    Case(b"  1", Some((1, 1))),
+    Case(b"", None),
+    Case(b"X ", None),
+    Case(b"XX", None),
+    Case(b"X 1 ", None),
+    Case(b"X  1", None),
+    Case(b"X 01", None),
+    Case(b"X 00", None),
+    Case(b"X +1", None),
+    Case(b"X 1\r", None),
+    Case(b"X 1\t2", None),
+    Case(b"X 1:", None),
+    Case(b"X 18446744073709551616", None),
+    Case(b"X 99999999999999999999999", None),
+];
 
 #[test]
-fn are_not_read(rt: LibcRuntime) -> Result<(), Fail> {
+fn lines(rt: LibcRuntime) -> Result<(), Fail> {
     let heap = rt.alloc();
-    check_eq(last_of(heap, b"")?, None)?;
-    check_eq(last_of(heap, b"X ")?, None)?;
-    check_eq(last_of(heap, b"XX")?, None)?;
-    check_eq(last_of(heap, b"X 1 ")?, None)?;
-    check_eq(last_of(heap, b"X  1")?, None)?;
-    check_eq(last_of(heap, b"X 01")?, None)?;
-    check_eq(last_of(heap, b"X 00")?, None)?;
-    check_eq(last_of(heap, b"X +1")?, None)?;
-    check_eq(last_of(heap, b"X 1\r")?, None)?;
-    check_eq(last_of(heap, b"X 1\t2")?, None)?;
-    check_eq(last_of(heap, b"X 1:")?, None)?;
-    check_eq(last_of(heap, b"X 18446744073709551616")?, None)?;
-    check_eq(last_of(heap, b"X 99999999999999999999999")?, None)
+    for case in &CASES {
+        check_eq(last_of(heap, case.0)?, case.1)?;
+    }
+    Ok(())
 }

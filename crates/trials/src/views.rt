@@ -12,29 +12,56 @@ use std::test::*;
 
 const LAST: u32 = 4_294_967_295;
 
+// Wishes under counting with f = 1, and under the weights 5, 1, 1, 1, and the pair.
+struct Case(&'static [u32], (u32, u32));
+
+const COUNTED: [Case; 13] = [
+    Case(&[3, 3, 5, 0], (3, 3)),
+    Case(&[1, 3, 5, 0], (3, 1)),
+    Case(&[0, 0, 0, 0], (0, 0)),
+    // ties
+    Case(&[2, 2, 2, 2], (2, 2)),
+    Case(&[2, 2, 1, 1], (2, 1)),
+    // the last view
+    Case(&[LAST, LAST, LAST, LAST], (LAST, LAST)),
+    Case(&[0, LAST, 0, LAST], (LAST, 0)),
+    Case(&[LAST, 0, 0, 0], (0, 0)),
+    // lists of another length
+    Case(&[], (0, 0)),
+    Case(&[7], (0, 0)),
+    Case(&[7, 7], (7, 0)),
+    Case(&[7, 7, 7], (7, 7)),
+    Case(&[5, 5, 5, 5, 9, 9, 9, 9], (5, 5)),
+];
+
+const WEIGHED: [Case; 4] = [
+    Case(&[2, 2, 1, 0], (2, 2)),
+    Case(&[2, 0, 1, 0], (2, 1)),
+    Case(&[0, 3, 3, 3], (3, 0)),
+    Case(&[0, 3, 3, 0], (0, 0)),
+];
+
 #[test]
 fn by_counting() -> Result<(), Fail> {
     let rule = Counting::new(1)?;
-    check_eq(views(&rule, &[3, 3, 5, 0]), (3, 3))?;
-    check_eq(views(&rule, &[1, 3, 5, 0]), (3, 1))?;
-    check_eq(views(&rule, &[0, 0, 0, 0]), (0, 0))?;
-    // ties
-    check_eq(views(&rule, &[2, 2, 2, 2]), (2, 2))?;
-    check_eq(views(&rule, &[2, 2, 1, 1]), (2, 1))?;
-    // the last view
-    check_eq(views(&rule, &[LAST, LAST, LAST, LAST]), (LAST, LAST))?;
-    check_eq(views(&rule, &[0, LAST, 0, LAST]), (LAST, 0))?;
-    check_eq(views(&rule, &[LAST, 0, 0, 0]), (0, 0))
+    for case in &COUNTED {
+        check_eq(views(&rule, case.0), case.1)?;
+    }
+    Ok(())
 }
 
 #[test]
-fn of_lists_of_any_length() -> Result<(), Fail> {
-    let rule = Counting::new(1)?;
-    check_eq(views(&rule, &[]), (0, 0))?;
-    check_eq(views(&rule, &[7]), (0, 0))?;
-    check_eq(views(&rule, &[7, 7]), (7, 0))?;
-    check_eq(views(&rule, &[7, 7, 7]), (7, 7))?;
-    check_eq(views(&rule, &[5, 5, 5, 5, 9, 9, 9, 9]), (5, 5))?;
+fn by_weights() -> Result<(), Fail> {
+    let mut rule = Weights::four_equal();
+    check(rule.replace(&[5, 1, 1, 1]).is_ok())?;
+    for case in &WEIGHED {
+        check_eq(views(&rule, case.0), case.1)?;
+    }
+    Ok(())
+}
+
+#[test]
+fn of_lists_past_the_processes() -> Result<(), Fail> {
     let wide = Counting::new(10)?;
     // the slots from 31 up are no process's
     let past = wished([0; 40], 31, 40);
@@ -53,16 +80,6 @@ fn wished(mut wishes: [u32; 40], from: usize, to: usize) -> [u32; 40] {
         }
     }
     wishes
-}
-
-#[test]
-fn by_weights() -> Result<(), Fail> {
-    let mut rule = Weights::four_equal();
-    check(rule.replace(&[5, 1, 1, 1]).is_ok())?;
-    check_eq(views(&rule, &[2, 2, 1, 0]), (2, 2))?;
-    check_eq(views(&rule, &[2, 0, 1, 0]), (2, 1))?;
-    check_eq(views(&rule, &[0, 3, 3, 3]), (3, 0))?;
-    check_eq(views(&rule, &[0, 3, 3, 0]), (0, 0))
 }
 
 #[test]

@@ -20,25 +20,32 @@ fn refused(list: &[u32]) -> (u8, u8) {
     }
 }
 
+// A list, and the number and slot of its refusal, or 0 and the rule's size.
+struct List(&'static [u32], (u8, u8));
+
+const LISTS: [List; 12] = [
+    List(&[], (17, 32)),
+    List(&[1], (0, 1)),
+    List(&[1; 32], (0, 32)),
+    List(&[1; 33], (17, 32)),
+    List(&[1_000_001; 33], (17, 32)),
+    List(&[1_000_000, 0], (0, 2)),
+    List(&[1_000_001, 0], (18, 0)),
+    List(&[0, 1_000_001, 4_294_967_295], (18, 1)),
+    List(&[1_000_001; 32], (18, 0)),
+    List(&[0], (19, 32)),
+    List(&[0; 32], (19, 32)),
+    List(&[0, 0, 1], (0, 3)),
+];
+
 #[test]
 fn refusals() -> Result<(), Fail> {
-    let ones = [1; 33];
+    for case in &LISTS {
+        check_eq(refused(case.0), case.1)?;
+    }
     let mut last = [0; 32];
     last[31] = 1_000_001;
-    let mut heavy = [0; 33];
-    heavy[0] = 1_000_001;
-    check_eq(refused(&[]), (17, 32))?;
-    check_eq(refused(&[1]), (0, 1))?;
-    check_eq(refused(&ones[0..32]), (0, 32))?;
-    check_eq(refused(&ones), (17, 32))?;
-    check_eq(refused(&heavy), (17, 32))?;
-    check_eq(refused(&[1_000_000, 0]), (0, 2))?;
-    check_eq(refused(&[1_000_001, 0]), (18, 0))?;
-    check_eq(refused(&[0, 1_000_001, 4_294_967_295]), (18, 1))?;
-    check_eq(refused(&last), (18, 31))?;
-    check_eq(refused(&[0]), (19, 32))?;
-    check_eq(refused(&[0; 32]), (19, 32))?;
-    check_eq(refused(&[0, 0, 1]), (0, 3))
+    check_eq(refused(&last), (18, 31))
 }
 
 #[test]
@@ -66,28 +73,34 @@ fn asked(list: &[u32], bits: u32) -> (bool, bool) {
     (rule.is_quorum(set), rule.is_blocking(set))
 }
 
+// Weights and a set, and whether it is a quorum and whether it is blocking.
+struct Question(&'static [u32], u32, (bool, bool));
+
+const QUESTIONS: [Question; 14] = [
+    Question(&[5, 1, 1, 1], 0b0011, (true, true)),
+    Question(&[5, 1, 1, 1], 0b1110, (false, true)),
+    Question(&[5, 1, 1, 1], 0b0110, (false, false)),
+    Question(&[5, 1, 1, 1], 0b0001, (false, true)),
+    Question(&[5, 1, 1, 1], 0xffff_fff6, (false, false)),
+    // exactly two thirds, and exactly one
+    Question(&[1, 1, 1], 0b011, (false, true)),
+    Question(&[1, 1, 1], 0b001, (false, true)),
+    Question(&[1, 1, 1], 0b111, (true, true)),
+    // zero weights beside others
+    Question(&[0, 4, 0, 0], 0b1101, (false, false)),
+    Question(&[0, 4, 0, 0], 0b0010, (true, true)),
+    Question(&[1_000_000; 32], 0x1f_ffff, (false, true)),
+    Question(&[1_000_000; 32], 0x3f_ffff, (true, true)),
+    Question(&[1_000_000; 32], 0x3ff, (false, false)),
+    Question(&[1_000_000; 32], 0x7ff, (false, true)),
+];
+
 #[test]
 fn questions() -> Result<(), Fail> {
-    let heavy = [5, 1, 1, 1];
-    check_eq(asked(&heavy, 0b0011), (true, true))?;
-    check_eq(asked(&heavy, 0b1110), (false, true))?;
-    check_eq(asked(&heavy, 0b0110), (false, false))?;
-    check_eq(asked(&heavy, 0b0001), (false, true))?;
-    check_eq(asked(&heavy, 0xffff_fff6), (false, false))?;
-    // exactly two thirds, and exactly one
-    let thirds = [1, 1, 1];
-    check_eq(asked(&thirds, 0b011), (false, true))?;
-    check_eq(asked(&thirds, 0b001), (false, true))?;
-    check_eq(asked(&thirds, 0b111), (true, true))?;
-    // zero weights beside others
-    let zeros = [0, 4, 0, 0];
-    check_eq(asked(&zeros, 0b1101), (false, false))?;
-    check_eq(asked(&zeros, 0b0010), (true, true))?;
-    let full = [1_000_000; 32];
-    check_eq(asked(&full, 0x1f_ffff), (false, true))?;
-    check_eq(asked(&full, 0x3f_ffff), (true, true))?;
-    check_eq(asked(&full, 0x3ff), (false, false))?;
-    check_eq(asked(&full, 0x7ff), (false, true))
+    for case in &QUESTIONS {
+        check_eq(asked(case.0, case.1), case.2)?;
+    }
+    Ok(())
 }
 
 #[test]
