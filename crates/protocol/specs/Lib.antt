@@ -1,0 +1,9 @@
+pub mod Numbers
+pub mod Rows
+pub mod Settings
+pub mod Plans
+pub mod Calls
+pub mod Sweeps
+pub mod Openings
+pub mod Runs
+pub mod Protocol
