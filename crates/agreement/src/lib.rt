@@ -1,0 +1,2 @@
+// Theorems about the protocol.
+pub mod claims;
