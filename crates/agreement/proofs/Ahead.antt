@@ -66,24 +66,26 @@ ahead-trans {r} {r′} {r″} a b = record {
   wishes = λ j. omega (arith, a .wishes j, b .wishes j);
   decision = λ x. b .decision (a .decision x);
   within = λ e.
-    let p = a .within (omega (arith, a .view, b .view)) in
-    let q = b .within (omega (arith, a .view, b .view)) in
-    record {
-      reports = λ j x. q .reports j (p .reports j x);
-      prepared = λ j x. q .prepared j (p .prepared j x);
-      committed = λ j x. q .committed j (p .committed j x);
-      proposal = λ x. q .proposal (p .proposal x);
-      proposed = λ x. q .proposed (p .proposed x);
-      phase = omega (arith, p .phase, q .phase);
-    };
+      let p = a .within (omega (arith, a .view, b .view)) in
+      let q = b .within (omega (arith, a .view, b .view)) in
+      record {
+        reports = λ j x. q .reports j (p .reports j x);
+        prepared = λ j x. q .prepared j (p .prepared j x);
+        committed = λ j x. q .committed j (p .committed j x);
+        proposal = λ x. q .proposal (p .proposal x);
+        proposed = λ x. q .proposed (p .proposed x);
+        phase = omega (arith, p .phase, q .phase);
+      };
 }
 
 pub set-cases : {X : Type 0} (l : List X) (j : ℕ) (k : X) (x : ℕ) (d : X) → (getD (set l j k) x d ≡ getD l x d) ⊎ ((x ≡ j) × (getD (set l j k) x d ≡ k))
 set-cases l j k x d = elim (cases-eq x j) [
-    inl e ↦ elim (cases-lt j (length l)) [
-        inl h ↦ inr (e, rw e (getD-set-same l j k d h))
-      | inr h ↦ inl (ap (λ y. getD y x d) (set-past l j k h)) ]
-  | inr ne ↦ inl (getD-set-other l j x k d ne) ]
+  | inl e ↦ elim (cases-lt j (length l)) [
+    | inl h ↦ inr (e, rw e (getD-set-same l j k d h))
+    | inr h ↦ inl (ap (λ y. getD y x d) (set-past l j k h))
+  ]
+  | inr ne ↦ inl (getD-set-other l j x k d ne)
+]
 
 pub record Effect (S : Setting) (s : State) (i : ℕ) (t : State) : Type 0 where
   pub next : Row

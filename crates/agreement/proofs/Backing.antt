@@ -43,8 +43,9 @@ module _ (M : ℕ → Message) (box : List ℕ) (a : ℕ) where
   unfolding backing
   backing-at zero j h few = absurd (omega arith)
   backing-at (suc n) j h few = elim (cases-eq j n) [
-      inl e ↦ rw e (getD-set-same (backing M box a n) n (cond (backs M a (place-at box n)) (place-at box n) 0) 0 (omega (arith, backing-length n)))
-    | inr ne ↦ getD-set-other (backing M box a n) n j (cond (backs M a (place-at box n)) (place-at box n) 0) 0 ne ∙ backing-at n j (omega arith) (omega arith) ]
+    | inl e ↦ rw e (getD-set-same (backing M box a n) n (cond (backs M a (place-at box n)) (place-at box n) 0) 0 (omega (arith, backing-length n)))
+    | inr ne ↦ getD-set-other (backing M box a n) n j (cond (backs M a (place-at box n)) (place-at box n) 0) 0 ne ∙ backing-at n j (omega arith) (omega arith)
+  ]
 
   backs-parts : (k : ℕ) → backs M a k ≡ true → (k ≢ 0) × (M k .value ≡ a)
   backs-parts k h =
@@ -53,8 +54,9 @@ module _ (M : ℕ → Message) (box : List ℕ) (a : ℕ) where
 
   backed : (n j : ℕ) → j < n → n ≤ 32 → place-at (backing M box a n) j ≢ 0 → (backs M a (place-at box j) ≡ true) × (place-at (backing M box a n) j ≡ place-at box j)
   backed n j h few nz = elim (cases-bool (backs M a (place-at box j))) [
-      inl e ↦ (e, backing-at n j h few ∙ cond-true (backs M a (place-at box j)) (place-at box j) 0 e)
-    | inr e ↦ absurd (nz (backing-at n j h few ∙ cond-false (backs M a (place-at box j)) (place-at box j) 0 e)) ]
+    | inl e ↦ (e, backing-at n j h few ∙ cond-true (backs M a (place-at box j)) (place-at box j) 0 e)
+    | inr e ↦ absurd (nz (backing-at n j h few ∙ cond-false (backs M a (place-at box j)) (place-at box j) 0 e))
+  ]
 
   backer : (j : ℕ) → j < 32 → has (backers M box a) j ≡ true → backs M a (place-at box j) ≡ true
   backer j h b = sym (place-tallied (backs M a) refl box j h) ∙ b
@@ -65,17 +67,17 @@ module _ (S : Setting) (laws : Lawful (S .rule)) where
   backing-certificate M box a v q all = record {
     quorum = laws .more (backers M box a) (cited (backing M box a (S .rule .size))) q inside;
     each = λ j h nz.
-      let p = backed M box a (S .rule .size) j h (laws .few) nz in
-      let b = backs-parts M box a (place-at box j) (p .0) in
-      let x = all j h (b .0) in
-      rw (p .1) (record { kind-is = x .0 .kind-is; sender-is = x .0 .sender-is; view-is = x .1; value-is = b .1 });
+        let p = backed M box a (S .rule .size) j h (laws .few) nz in
+        let b = backs-parts M box a (place-at box j) (p .0) in
+        let x = all j h (b .0) in
+        rw (p .1) (record { kind-is = x .0 .kind-is; sender-is = x .0 .sender-is; view-is = x .1; value-is = b .1 });
   }
     where
       inside : (j : ℕ) → j < S .rule .size → has (backers M box a) j ≡ true → has (cited (backing M box a (S .rule .size))) j ≡ true
       inside j h m =
           let t = backer M box a j (omega (arith, laws .few)) m in
           let e : place-at (backing M box a (S .rule .size)) j ≡ place-at box j =
-            backing-at M box a (S .rule .size) j h (laws .few) ∙ cond-true (backs M a (place-at box j)) (place-at box j) 0 t in
+          backing-at M box a (S .rule .size) j h (laws .few) ∙ cond-true (backs M a (place-at box j)) (place-at box j) 0 t in
           place-tallied held refl (backing M box a (S .rule .size)) j (omega (arith, laws .few))
           ∙ rw (e, ne-eqb (place-at box j) 0 (backs-parts M box a (place-at box j) t .0))
 
@@ -85,7 +87,7 @@ module _ (S : Setting) (laws : Lawful (S .rule)) where
     members = backers M box a;
     quorum = q;
     each = λ j h m.
-      let b = backs-parts M box a (place-at box j) (backer M box a j (omega (arith, laws .few)) m) in
-      let x = all j h (b .0) in
-      (place-at box j, record { kind-is = x .0 .kind-is; sender-is = x .0 .sender-is; view-is = x .1; value-is = b .1 });
+        let b = backs-parts M box a (place-at box j) (backer M box a j (omega (arith, laws .few)) m) in
+        let x = all j h (b .0) in
+        (place-at box j, record { kind-is = x .0 .kind-is; sender-is = x .0 .sender-is; view-is = x .1; value-is = b .1 });
   }

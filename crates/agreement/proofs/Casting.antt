@@ -30,8 +30,9 @@ use Rattle.agreement.proofs.Ahead.{set-cases}
 
 pub each-set : (n : ℕ) (M : ℕ → Message) (l : List ℕ) (P : ℕ → Message → Type 0) (j k : ℕ) → Each n M l P → P j (M k) → Each n M (set l j k) P
 each-set n M l P j k all this x h nz = elim (set-cases l j k x 0) [
-    inl e ↦ rw e (all x h (rw e at nz))
-  | inr e ↦ rw (e .1, e .0) this ]
+  | inl e ↦ rw e (all x h (rw e at nz))
+  | inr e ↦ rw (e .1, e .0) this
+]
 
 pub no-place : (x : ℕ) → place-at no-places x ≡ 0
 no-place x = elim (cases-lt x 32) [ inl l ↦ getD-replicate 32 x 0 0 l | inr g ↦ getD-past no-places x 0 g ]
@@ -66,20 +67,24 @@ module _ (S : Setting) {M M′ : ℕ → Message} (i : ℕ) where
     low = λ k o. elim (add k) [ inl e ↦ rw e (h .low k (rw e at o)) | inr e ↦ rw (e .1) (omega arith) ];
     now = λ k o s. elim (add k) [ inl e ↦ absurd (fresh k (rw e at o) (rw e at s)) | inr e ↦ (voted≢fresh, ap (λ (x : Message). x .value) (e .1)) ];
     once = λ k l o u s. elim (add k) [
-        inl e ↦ elim (add l) [
-            inl f ↦ rw (e, f) (h .once k l (rw e at o) (rw f at u) (rw (e, f) at s))
-          | inr f ↦ absurd (fresh k (rw e at o) (rw (e, f .1) at s)) ]
+      | inl e ↦ elim (add l) [
+        | inl f ↦ rw (e, f) (h .once k l (rw e at o) (rw f at u) (rw (e, f) at s))
+        | inr f ↦ absurd (fresh k (rw e at o) (rw (e, f .1) at s))
+      ]
       | inr e ↦ elim (add l) [
-            inl f ↦ absurd (fresh l (rw f at u) (sym (rw (e .1, f) at s)))
-          | inr f ↦ rw (e .1, f .1) ] ];
+        | inl f ↦ absurd (fresh l (rw f at u) (sym (rw (e .1, f) at s)))
+        | inr f ↦ rw (e .1, f .1)
+      ]
+    ];
     safe = λ k o. elim (add k) [
-        inl e ↦
+      | inl e ↦
           let w = h .safe k (rw e at o) in
           let f = kept.stays S add (w .0) (λ z. omega (arith, w .1, z)) in
           (w .0, rw f (w .1), rw f (kept.proposal S add (w .2)), rw (e, f) (w .3), rw (e, f) (w .4))
       | inr e ↦
           let f = kept.stays S add p (λ z. omega (arith, kind, z)) in
-          (p, rw f kind, rw f (kept.proposal S add offer), rw (e .1, f) at, rw (e .1, f) same) ];
+          (p, rw f kind, rw f (kept.proposal S add offer), rw (e .1, f) at, rw (e .1, f) same)
+    ];
   }
     where
       fresh : (k : ℕ) → Of kind-prepared i (M k) → M k .view ≡ v → ⊥
@@ -91,17 +96,20 @@ module _ (S : Setting) {M M′ : ℕ → Message} (i : ℕ) where
     seen = λ k o. let e = kept.back S add 2 i k two o in rw e (h .seen k (rw e at o));
     under = λ k o. elim (add k) [ inl e ↦ rw e (omega (arith, h .under k (rw e at o), h .low)) | inr e ↦ rw (e .1) (omega arith) ];
     proof = λ k o. elim (add k) [
-        inl e ↦ let w = h .proof k (rw e at o) in rw e (w .0, kept.certificate S add (w .1))
-      | inr e ↦ rw (e .1) (C, kept.certificate S add c) ];
+      | inl e ↦ let w = h .proof k (rw e at o) in rw e (w .0, kept.certificate S add (w .1))
+      | inr e ↦ rw (e .1) (C, kept.certificate S add c)
+    ];
     told = λ k n o u s.
-      let e = kept.back S add 2 i k two o in
-      elim (add n) [
-          inl f ↦ rw (e, f) (h .told k n (rw e at o) (rw f at u) (rw (e, f) at s))
-        | inr f ↦ absurd (under k (rw e at o) (rw (e, f .1) at s)) ];
+        let e = kept.back S add 2 i k two o in
+        elim (add n) [
+          | inl f ↦ rw (e, f) (h .told k n (rw e at o) (rw f at u) (rw (e, f) at s))
+          | inr f ↦ absurd (under k (rw e at o) (rw (e, f .1) at s))
+        ];
   }
     where
       two : Of kind-report i (vote kind-committed i v a) → ⊥
       two o = omega (arith, o .kind-is)
+
       under : (k : ℕ) → Of kind-report i (M k) → v < M k .view → ⊥
       under k o s = omega (arith, h .seen k o)
 
@@ -112,10 +120,11 @@ module _ (S : Setting) {M M′ : ℕ → Message} (i : ℕ) where
     under = λ k o. let e = kept.back S add 5 i k five o in rw e (h .under k (rw e at o));
     proof = λ k o. let e = kept.back S add 5 i k five o in let y = h .proof k (rw e at o) in rw e (y .0, kept.certificate S add (y .1));
     told = λ k n o u s.
-      let f = kept.back S add 5 i n five u in
-      elim (add k) [
-          inl e ↦ rw (e, f) (h .told k n (rw e at o) (rw f at u) (rw (e, f) at s))
-        | inr e ↦ rw (e .1, f) (omega (arith, h .under n (rw f at u))) ];
+        let f = kept.back S add 5 i n five u in
+        elim (add k) [
+          | inl e ↦ rw (e, f) (h .told k n (rw e at o) (rw f at u) (rw (e, f) at s))
+          | inr e ↦ rw (e .1, f) (omega (arith, h .under n (rw f at u)))
+        ];
   }
     where
       five : Of kind-committed i x → ⊥

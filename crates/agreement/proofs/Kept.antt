@@ -30,8 +30,9 @@ Adds x M M′ = (k : ℕ) → (M′ k ≡ M k) ⊎ ((M k ≡ silence) × (M′ k
 
 same-ltb : (k c : ℕ) → k ≢ c → ltb k (c + 1) ≡ ltb k c
 same-ltb k c h = elim (cases-lt k c) [
-    inl l ↦ lt-ltb k (c + 1) (omega arith) ∙ sym (lt-ltb k c l)
-  | inr g ↦ le-ltb k (c + 1) (omega arith) ∙ sym (le-ltb k c g) ]
+  | inl l ↦ lt-ltb k (c + 1) (omega arith) ∙ sym (lt-ltb k c l)
+  | inr g ↦ le-ltb k (c + 1) (omega arith) ∙ sym (le-ltb k c g)
+]
 
 one-more : (x : Message) (b : Bool) → (cond b x silence ≡ silence) ⊎ ((silence ≡ silence) × (cond b x silence ≡ x))
 one-more x true = inr (refl, refl)
@@ -41,8 +42,9 @@ pub posts : (n : ℕ) (post : List Message) (c : ℕ) (x : Message) → c < leng
 unfolding posted
 posts n post c x room zero = inl refl
 posts n post c x room (suc k) = elim (cases-eq k c) [
-    inl e ↦ rw (e, le-ltb c c (omega arith), lt-ltb c (c + 1) (omega arith), getD-set-same post c x blank room) (one-more x (proper n x))
-  | inr ne ↦ inl (rw (getD-set-other post c k x blank ne, same-ltb k c ne)) ]
+  | inl e ↦ rw (e, le-ltb c c (omega arith), lt-ltb c (c + 1) (omega arith), getD-set-same post c x blank room) (one-more x (proper n x))
+  | inr ne ↦ inl (rw (getD-set-other post c k x blank ne, same-ltb k c ne))
+]
 
 pub posted-there : (n : ℕ) (post : List Message) (c : ℕ) (x : Message) → c < length post → proper n x ≡ true → posted n (set post c x) (c + 1) (suc c) ≡ x
 unfolding posted
@@ -80,14 +82,14 @@ module _ {x : Message} {M M′ : ℕ → Message} (S : Setting) (add : Adds x M 
     quorum = p .quorum;
     each = λ j h nz. rw (there j h nz) (report (p .each j h nz));
     highest = λ j h nz ne.
-      let t = p .highest j h nz (rw (there j h nz) at ne) in
-      record {
-        from = t .from;
-        within = t .within;
-        there = t .there;
-        most = λ i hi ni. rw (there i hi ni, there (t .from) (t .within) (t .there)) (t .most i hi ni);
-        value-is = rw (there (t .from) (t .within) (t .there)) (t .value-is);
-      };
+        let t = p .highest j h nz (rw (there j h nz) at ne) in
+        record {
+          from = t .from;
+          within = t .within;
+          there = t .there;
+          most = λ i hi ni. rw (there i hi ni, there (t .from) (t .within) (t .there)) (t .most i hi ni);
+          value-is = rw (there (t .from) (t .within) (t .there)) (t .value-is);
+        };
   }
     where
       there : (j : ℕ) → j < S .rule .size → place-at (y .citations) j ≢ 0 → M′ (place-at (y .citations) j) ≡ M (place-at (y .citations) j)
@@ -116,10 +118,10 @@ module _ {x : Message} {M M′ : ℕ → Message} (S : Setting) (add : Adds x M 
     now = λ k o s. let e = back 4 j k un o in rw e (h .now k (rw e at o) (rw e at s));
     once = λ k l o u s. let e = back 4 j k un o in let f = back 4 j l un u in rw (e, f) (h .once k l (rw e at o) (rw f at u) (rw (e, f) at s));
     safe = λ k o.
-      let e = back 4 j k un o in
-      let w = h .safe k (rw e at o) in
-      let f = stays (w .0) (λ z. omega (arith, w .1, z)) in
-      (w .0, rw f (w .1), rw f (proposal (w .2)), rw (e, f) (w .3), rw (e, f) (w .4));
+        let e = back 4 j k un o in
+        let w = h .safe k (rw e at o) in
+        let f = stays (w .0) (λ z. omega (arith, w .1, z)) in
+        (w .0, rw f (w .1), rw f (proposal (w .2)), rw (e, f) (w .3), rw (e, f) (w .4));
   }
 
   pub locks : {j v l : ℕ} → (Of kind-report j x → ⊥) → (Of kind-committed j x → ⊥) → Locks S M j v l → Locks S M′ j v l

@@ -48,8 +48,9 @@ safe S fair s ok = record {
 module _ (S : Setting) (s : State) (ok : Sound S s) (i : ℕ) (run : Runs S i) (r : Row) where
   changed : (M : ℕ → Message) → Local S M i r → ((j : ℕ) → Runs S j → j ≢ i → Local S M j (row s j)) → (j : ℕ) → Runs S j → Local S M j (getD (set (s .table) i r) j blank-row)
   changed M this others j h = elim (cases-eq j i) [
-      inl e ↦ rw (e, getD-set-same (s .table) i r blank-row (omega (arith, run .within, ok .rows))) this
-    | inr ne ↦ rw (getD-set-other (s .table) i j r blank-row ne) (others j h ne) ]
+    | inl e ↦ rw (e, getD-set-same (s .table) i r blank-row (omega (arith, run .within, ok .rows))) this
+    | inr ne ↦ rw (getD-set-other (s .table) i j r blank-row ne) (others j h ne)
+  ]
 
   put-sound : Local S (mail S s) i r → Sound S (put s i r)
   put-sound this = record { rows = rw (length-set (s .table) i r) (ok .rows); each = changed (mail S s) this (λ j h ne. ok .each j h) }
@@ -62,6 +63,7 @@ module _ (S : Setting) (s : State) (ok : Sound S s) (i : ℕ) (run : Runs S i) (
     where
       add : Adds x (mail S s) (mail S (send s x))
       add = kept.posts (S .rule .size) (s .post) (s .count) x room
+
       other : (c j : ℕ) → j ≢ i → Of c j x → ⊥
       other c j ne o = ne (sym (o .sender-is) ∙ mine)
 
@@ -105,20 +107,28 @@ module _ (S : Setting) (fair : Fair S) (s : State) (ok : Sound S s) (i : ℕ) (r
   taken-sound k r′ (heard is up) = put-sound S s ok i run _ (record { votes = h .votes; locks = h .locks; holds = h .holds; decides = h .decides })
   taken-sound k r′ (reported l z rep) = put-sound S s ok i run _ (record { votes = h .votes; locks = h .locks; holds = h .holds; decides = h .decides })
   taken-sound k r′ (offered is at z p) = put-sound S s ok i run _ (record {
-    votes = h .votes; locks = h .locks; decides = h .decides;
+    votes = h .votes;
+    locks = h .locks;
+    decides = h .decides;
     holds = record { offer = λ nz. (is, p, at); votes = h .holds .votes; locks = h .holds .locks };
   })
   taken-sound k r′ (prepared is at z) = put-sound S s ok i run _ (record {
-    votes = h .votes; locks = h .locks; decides = h .decides;
+    votes = h .votes;
+    locks = h .locks;
+    decides = h .decides;
     holds = record {
-      offer = h .holds .offer; locks = h .holds .locks;
+      offer = h .holds .offer;
+      locks = h .holds .locks;
       votes = casting.each-set (S .rule .size) (mail S s) (r .ballot .prepared) (Held kind-prepared (r .ballot .view)) (mail S s k .sender) k (h .holds .votes) (record { kind-is = is; sender-is = refl }, at);
     };
   })
   taken-sound k r′ (committed is at z) = put-sound S s ok i run _ (record {
-    votes = h .votes; locks = h .locks; decides = h .decides;
+    votes = h .votes;
+    locks = h .locks;
+    decides = h .decides;
     holds = record {
-      offer = h .holds .offer; votes = h .holds .votes;
+      offer = h .holds .offer;
+      votes = h .holds .votes;
       locks = casting.each-set (S .rule .size) (mail S s) (r .ballot .committed) (Held kind-committed (r .ballot .view)) (mail S s k .sender) k (h .holds .locks) (record { kind-is = is; sender-is = refl }, at);
     };
   })
@@ -164,9 +174,11 @@ module _ (S : Setting) (fair : Fair S) (s : State) (ok : Sound S s) (i : ℕ) (r
         decides = kept.decides S add (h .decides);
       })
   made-sound p (decide is un q) fits = put-sound S s ok i run _ (record {
-    votes = h .votes; locks = h .locks; holds = h .holds;
+    votes = h .votes;
+    locks = h .locks;
+    holds = h .holds;
     decides = λ d e. subst (λ (x : Decision). QuorumSent (S .rule) (mail S s) kind-committed (x .view) (x .value)) (decision-is d e)
-      (backing-quorum S (fair .laws) (mail S s) (r .ballot .committed) (r .ballot .voted) (r .ballot .view) kind-committed q (h .holds .locks));
+        (backing-quorum S (fair .laws) (mail S s) (r .ballot .committed) (r .ballot .voted) (r .ballot .view) kind-committed q (h .holds .locks));
   })
     where
       decision-is : (d : Decision) → Some (record { view = r .ballot .view; value = r .ballot .voted }) ≡ Some d → record { view = r .ballot .view; value = r .ballot .voted } ≡ d

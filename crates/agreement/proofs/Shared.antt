@@ -130,9 +130,9 @@ module _ (S : Setting) (fair : Fair S) (M : ℕ → Message) (rows : ℕ → Row
       let high : v ≤ r .locked = omega (arith, t .3, top .most (t .0) (t .1) (t .2)) in
       let cert = best .lock .proof (omega arith) in
       let same : r .value ≡ a =
-            ⊎-elim (λ (l : v < r .locked). ih (r .locked) (r .value) (r .citations) (omega (arith, best .lock .below, best .view-is)) l cert)
-            (λ (g : r .locked ≤ v). let e : r .locked ≡ v = omega arith in one-value (r .citations) (c .0) v (r .value) a (moved e refl cert) (c .1))
-            (cases-lt v (r .locked)) in
+      ⊎-elim (λ (l : v < r .locked). ih (r .locked) (r .value) (r .citations) (omega (arith, best .lock .below, best .view-is)) l cert)
+      (λ (g : r .locked ≤ v). let e : r .locked ≡ v = omega arith in one-value (r .citations) (c .0) v (r .value) a (moved e refl cert) (c .1))
+      (cases-lt v (r .locked)) in
       sym eb ∙ sym (top .value-is) ∙ same
 
   -- by induction on a bound of the later view

@@ -131,4 +131,4 @@ Promised m valid =
     opening m valid b table post foreign owns .answer ≡ Ok tt →
     m .tolerated (opening m valid b table post foreign owns .books .foreign) ≡ true →
     Promise (setting m valid (opening m valid b table post foreign owns .books))
-      (standing (opening m valid b table post foreign owns .books) (opening m valid b table post foreign owns .table) post)
+    (standing (opening m valid b table post foreign owns .books) (opening m valid b table post foreign owns .table) post)

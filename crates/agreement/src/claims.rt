@@ -7,11 +7,9 @@ use quorum::validity::ValidityRule;
 // After every list of calls decisions agree and are valid, certificates agree, and a calm view decides.
 pub fn promise_stands<Q: QuorumRule, V: ValidityRule>(rule: &Q, validity: &V)
     ensures { λ _. ⌜ Promised (meaning (now (rule .entry))) (valid (now (validity .entry))) ⌝ }
-{
-}
+{}
 
 // The calls make the changes of the protocol, all of them and no others.
 pub fn calls_are_exact<Q: QuorumRule, V: ValidityRule>(rule: &Q, validity: &V)
     ensures { λ _. ⌜ Exact (meaning (now (rule .entry))) (valid (now (validity .entry))) ⌝ }
-{
-}
+{}

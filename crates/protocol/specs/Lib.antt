@@ -7,3 +7,4 @@ pub mod Sweeps
 pub mod Openings
 pub mod Runs
 pub mod Protocol
+pub mod Examples

@@ -39,8 +39,8 @@ unfoldable pub open-fault : Rule → (ℕ → Bool) → List Row → List Messag
 open-fault m valid table post foreign owns =
     first (fault-if (ltb (length owns) (m .size)) FewValues)
     (first (fault-if (ltb (length table) (m .size)) ShortTable)
-      (first (fault-if (eqb (length post) 0 || ltb 65535 (length post)) PostLength)
-        (first-below (own-fault valid foreign owns) (m .size))))
+    (first (fault-if (eqb (length post) 0 || ltb 65535 (length post)) PostLength)
+    (first-below (own-fault valid foreign owns) (m .size))))
 
 unfoldable pub new-rows : List ℕ → List Row → ℕ → List Row
 new-rows owns table zero = table

@@ -43,7 +43,9 @@ wish i w = record { sender = i; kind = kind-wish; view = w; value = 0; locked = 
 
 abbrev pub report : ℕ → ℕ → lock.Lock → Message
 report i w l = record {
-  sender = i; kind = kind-report; view = w;
+  sender = i;
+  kind = kind-report;
+  view = w;
   value = cond (eqb (l .view) 0) 0 (l .value);
   locked = l .view;
   citations = cond (eqb (l .view) 0) no-places (l .certificate);
@@ -81,28 +83,46 @@ unfoldable pub plan : Rule → (ℕ → Message) → ℕ → Row → Option Plan
 plan m M i r =
     cond (ltb (r .relayed) (hopeful m (r .wishes))) (Some (Relay (hopeful m (r .wishes))))
     (cond (eqb (settled m (r .wishes)) (hopeful m (r .wishes)) && ltb (r .ballot .view) (settled m (r .wishes))) (Some (TakeUp (settled m (r .wishes))))
-      (cond (leads (m .size) (r .ballot .view) i && (not (r .ballot .proposed) && m .quorum (cited (r .ballot .reports)))) (Some (Propose (choice (m .size) M (r .ballot .reports) (r .own))))
-        (vote-plan m M (r .ballot) (r .ballot .phase) (r .decision))))
+    (cond (leads (m .size) (r .ballot .view) i && (not (r .ballot .proposed) && m .quorum (cited (r .ballot .reports)))) (Some (Propose (choice (m .size) M (r .ballot .reports) (r .own))))
+    (vote-plan m M (r .ballot) (r .ballot .phase) (r .decision))))
 
 abbrev relays : Row → ℕ → Row
 relays r w = record { own = r .own; wishes = r .wishes; relayed = w; ballot = r .ballot; lock = r .lock; decision = r .decision }
 
 abbrev proposes : Ballot → Ballot
 proposes b = record {
-  view = b .view; phase = b .phase; voted = b .voted; proposed = true; proposal = b .proposal;
-  reports = b .reports; prepared = b .prepared; committed = b .committed;
+  view = b .view;
+  phase = b .phase;
+  voted = b .voted;
+  proposed = true;
+  proposal = b .proposal;
+  reports = b .reports;
+  prepared = b .prepared;
+  committed = b .committed;
 }
 
 abbrev votes : Ballot → ℕ → Ballot
 votes b a = record {
-  view = b .view; phase = Voted; voted = a; proposed = b .proposed; proposal = b .proposal;
-  reports = b .reports; prepared = b .prepared; committed = b .committed;
+  view = b .view;
+  phase = Voted;
+  voted = a;
+  proposed = b .proposed;
+  proposal = b .proposal;
+  reports = b .reports;
+  prepared = b .prepared;
+  committed = b .committed;
 }
 
 abbrev locks : Ballot → Ballot
 locks b = record {
-  view = b .view; phase = Locked; voted = b .voted; proposed = b .proposed; proposal = b .proposal;
-  reports = b .reports; prepared = b .prepared; committed = b .committed;
+  view = b .view;
+  phase = Locked;
+  voted = b .voted;
+  proposed = b .proposed;
+  proposal = b .proposal;
+  reports = b .reports;
+  prepared = b .prepared;
+  committed = b .committed;
 }
 
 abbrev pub planned : ℕ → (ℕ → Message) → Row → Plan → Row
@@ -111,13 +131,19 @@ planned n M r (TakeUp w) = with-ballot r (new-ballot w)
 planned n M r (Propose a) = with-ballot r (proposes (r .ballot))
 planned n M r (Vote a) = with-ballot r (votes (r .ballot) a)
 planned n M r Lock = record {
-  own = r .own; wishes = r .wishes; relayed = r .relayed;
+  own = r .own;
+  wishes = r .wishes;
+  relayed = r .relayed;
   ballot = locks (r .ballot);
   lock = record { view = r .ballot .view; value = r .ballot .voted; certificate = backing M (r .ballot .prepared) (r .ballot .voted) n };
   decision = r .decision;
 }
 planned n M r Decide = record {
-  own = r .own; wishes = r .wishes; relayed = r .relayed; ballot = r .ballot; lock = r .lock;
+  own = r .own;
+  wishes = r .wishes;
+  relayed = r .relayed;
+  ballot = r .ballot;
+  lock = r .lock;
   decision = Some (record { view = r .ballot .view; value = r .ballot .voted });
 }
 

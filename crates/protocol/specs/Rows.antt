@@ -43,24 +43,48 @@ with-ballot r b = record { own = r .own; wishes = r .wishes; relayed = r .relaye
 
 abbrev pub holds-report : Ballot → ℕ → ℕ → Ballot
 holds-report b j k = record {
-  view = b .view; phase = b .phase; voted = b .voted; proposed = b .proposed; proposal = b .proposal;
-  reports = set (b .reports) j k; prepared = b .prepared; committed = b .committed;
+  view = b .view;
+  phase = b .phase;
+  voted = b .voted;
+  proposed = b .proposed;
+  proposal = b .proposal;
+  reports = set (b .reports) j k;
+  prepared = b .prepared;
+  committed = b .committed;
 }
 
 abbrev pub holds-proposal : Ballot → ℕ → Ballot
 holds-proposal b k = record {
-  view = b .view; phase = b .phase; voted = b .voted; proposed = b .proposed; proposal = k;
-  reports = b .reports; prepared = b .prepared; committed = b .committed;
+  view = b .view;
+  phase = b .phase;
+  voted = b .voted;
+  proposed = b .proposed;
+  proposal = k;
+  reports = b .reports;
+  prepared = b .prepared;
+  committed = b .committed;
 }
 
 abbrev pub holds-prepared : Ballot → ℕ → ℕ → Ballot
 holds-prepared b j k = record {
-  view = b .view; phase = b .phase; voted = b .voted; proposed = b .proposed; proposal = b .proposal;
-  reports = b .reports; prepared = set (b .prepared) j k; committed = b .committed;
+  view = b .view;
+  phase = b .phase;
+  voted = b .voted;
+  proposed = b .proposed;
+  proposal = b .proposal;
+  reports = b .reports;
+  prepared = set (b .prepared) j k;
+  committed = b .committed;
 }
 
 abbrev pub holds-committed : Ballot → ℕ → ℕ → Ballot
 holds-committed b j k = record {
-  view = b .view; phase = b .phase; voted = b .voted; proposed = b .proposed; proposal = b .proposal;
-  reports = b .reports; prepared = b .prepared; committed = set (b .committed) j k;
+  view = b .view;
+  phase = b .phase;
+  voted = b .voted;
+  proposed = b .proposed;
+  proposal = b .proposal;
+  reports = b .reports;
+  prepared = b .prepared;
+  committed = set (b .committed) j k;
 }

@@ -47,8 +47,9 @@ is-full e = eqb (refusal-numbers e .number) 7
 unfoldable pub settle : ℕ → Setting → ℕ → Sweeping → Sweeping
 settle zero S i w = w
 settle (suc n) S i w = elim (move S (w .state) i .answer) [
-    Ok a ↦ settle n S i (record { state = move S (w .state) i .state; accepted = w .accepted; moves = w .moves + 1; stopped = w .stopped })
-  | Err e ↦ record { state = w .state; accepted = w .accepted; moves = w .moves; stopped = w .stopped + cond (is-full e) 1 0 } ]
+  | Ok a ↦ settle n S i (record { state = move S (w .state) i .state; accepted = w .accepted; moves = w .moves + 1; stopped = w .stopped })
+  | Err e ↦ record { state = w .state; accepted = w .accepted; moves = w .moves; stopped = w .stopped + cond (is-full e) 1 0 }
+]
 
 abbrev pub turn : Setting → ℕ → Sweeping → ℕ → Sweeping
 turn S c w i = cond (has (S .foreign) i) w (settle 12 S i (given-all S i w c))

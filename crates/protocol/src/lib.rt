@@ -1,5 +1,6 @@
 // Rows, refusals, moves and calls. What each call does stands in specs/.
-pub mod row;
-pub mod refusal;
-pub mod moves;
 pub mod call;
+pub mod claims;
+pub mod moves;
+pub mod refusal;
+pub mod row;
