@@ -1,5 +1,4 @@
 -- What voting, locking and taking up a view do to the invariant of the process. Assumes nothing.
---     each-set, each-none     a box with one place more, and an empty one
 --     entering, past-vote     a new view, and the phase after a vote
 --     voting                  a PREPARED is sent
 --     locking                 a COMMITTED is sent
@@ -10,35 +9,18 @@ use mathlib.Core.Path.{_≡_, refl, sym, ap, subst, _∙_}
 use mathlib.Core.List.{List}
 use mathlib.Core.Logic.{_≢_, _⊎_, inl, inr}
 use native.Mathlib.Omega.{arith}
-use lib.ListN.{set}
-use Rattle.std.proofs.shelf.Lists.{getD-replicate, getD-past}
-use Rattle.std.proofs.shelf.Tests.{cases-lt}
 use Rattle.mail.specs.declared.message.Message.{Message}
-use Rattle.mail.specs.Messages.{place-at, kind-report, kind-propose, kind-prepared, kind-committed}
+use Rattle.mail.specs.Messages.{kind-report, kind-propose, kind-prepared, kind-committed}
 use Rattle.mail.specs.Trust.{Certificate, Proposal}
 use Rattle.protocol.specs.declared.row.Row.{Row}
 use Rattle.protocol.specs.declared.row.Phase.{Phase}
 use Rattle.protocol.specs.declared.row.Phase.the-variants.{Fresh, Voted, Locked}
-use Rattle.protocol.specs.Rows.{no-places}
 use Rattle.protocol.specs.Settings.{Setting}
 use Rattle.protocol.specs.Plans.{vote}
 use Rattle.agreement.specs.Promise.{Of}
-use Rattle.agreement.proofs.Invariant.{Each, Held, Votes, Locks, Local}
+use Rattle.agreement.proofs.Invariant.{Votes, Locks, Local}
 use Rattle.agreement.proofs.Kept as kept
 use Rattle.agreement.proofs.Kept.{Adds}
-use Rattle.agreement.proofs.Ahead.{set-cases}
-
-pub each-set : (n : ℕ) (M : ℕ → Message) (l : List ℕ) (P : ℕ → Message → Type 0) (j k : ℕ) → Each n M l P → P j (M k) → Each n M (set l j k) P
-each-set n M l P j k all this x h nz = elim (set-cases l j k x 0) [
-  | inl e ↦ rw e (all x h (rw e at nz))
-  | inr e ↦ rw (e .1, e .0) this
-]
-
-pub no-place : (x : ℕ) → place-at no-places x ≡ 0
-no-place x = elim (cases-lt x 32) [ inl l ↦ getD-replicate 32 x 0 0 l | inr g ↦ getD-past no-places x 0 g ]
-
-pub each-none : (n : ℕ) (M : ℕ → Message) (P : ℕ → Message → Type 0) → Each n M no-places P
-each-none n M P x h nz = absurd (nz (no-place x))
 
 voted≢fresh : Voted ≢ Fresh
 voted≢fresh e = let z : _≡_ {A = ℕ} 0 1 = cc in omega arith

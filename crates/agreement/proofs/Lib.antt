@@ -1,8 +1,12 @@
 pub mod Invariant
 pub mod Kept
-pub mod Shared
+pub mod Places
 pub mod Backing
+pub mod Shared
+pub mod Ahead
+pub mod Reports
 pub mod Casting
 pub mod Safety
-pub mod Ahead
+pub mod Offers
+pub mod Doings
 pub mod Lively

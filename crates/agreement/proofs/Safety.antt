@@ -33,6 +33,7 @@ use Rattle.agreement.proofs.Invariant.{Fair, Held, Local, Sound}
 use Rattle.agreement.proofs.Kept as kept
 use Rattle.agreement.proofs.Kept.{Adds}
 use Rattle.agreement.proofs.Casting as casting
+use Rattle.agreement.proofs.Reports.{each-set, each-none}
 use Rattle.agreement.proofs.Shared as shared
 use Rattle.agreement.proofs.Backing.{backing-certificate, backing-quorum}
 
@@ -83,7 +84,7 @@ fresh : (S : Setting) (M : ℕ → Message) → ((k : ℕ) → M k ≡ silence) 
 fresh S M none j own = record {
   votes = record { low = λ k o. absurd (void 3 k o); now = λ k o s. absurd (void 3 k o); once = λ k l o u s. absurd (void 3 k o); safe = λ k o. absurd (void 3 k o) };
   locks = record { low = omega arith; seen = λ k o. absurd (void 1 k o); under = λ k o. absurd (void 4 k o); proof = λ k o. absurd (void 4 k o); told = λ k l o u s. absurd (void 1 k o) };
-  holds = record { offer = λ nz. absurd (nz refl); votes = casting.each-none (S .rule .size) M (Held kind-prepared 0); locks = casting.each-none (S .rule .size) M (Held kind-committed 0) };
+  holds = record { offer = λ nz. absurd (nz refl); votes = each-none (S .rule .size) M (Held kind-prepared 0); locks = each-none (S .rule .size) M (Held kind-committed 0) };
   decides = λ d e. absurd (let z : _≡_ {A = ℕ} 0 1 = cc in omega arith);
 }
   where
@@ -119,7 +120,7 @@ module _ (S : Setting) (fair : Fair S) (s : State) (ok : Sound S s) (i : ℕ) (r
     holds = record {
       offer = h .holds .offer;
       locks = h .holds .locks;
-      votes = casting.each-set (S .rule .size) (mail S s) (r .ballot .prepared) (Held kind-prepared (r .ballot .view)) (mail S s k .sender) k (h .holds .votes) (record { kind-is = is; sender-is = refl }, at);
+      votes = each-set (S .rule .size) (mail S s) (r .ballot .prepared) (Held kind-prepared (r .ballot .view)) (mail S s k .sender) k (h .holds .votes) (record { kind-is = is; sender-is = refl }, at);
     };
   })
   taken-sound k r′ (committed is at z) = put-sound S s ok i run _ (record {
@@ -129,7 +130,7 @@ module _ (S : Setting) (fair : Fair S) (s : State) (ok : Sound S s) (i : ℕ) (r
     holds = record {
       offer = h .holds .offer;
       votes = h .holds .votes;
-      locks = casting.each-set (S .rule .size) (mail S s) (r .ballot .committed) (Held kind-committed (r .ballot .view)) (mail S s k .sender) k (h .holds .locks) (record { kind-is = is; sender-is = refl }, at);
+      locks = each-set (S .rule .size) (mail S s) (r .ballot .committed) (Held kind-committed (r .ballot .view)) (mail S s k .sender) k (h .holds .locks) (record { kind-is = is; sender-is = refl }, at);
     };
   })
 
@@ -149,8 +150,8 @@ module _ (S : Setting) (fair : Fair S) (s : State) (ok : Sound S s) (i : ℕ) (r
         locks = casting.reporting S i add refl refl refl up (h .locks);
         holds = record {
           offer = λ nz. absurd (nz refl);
-          votes = casting.each-none (S .rule .size) (mail S (send s (report i w (r .lock)))) (Held kind-prepared w);
-          locks = casting.each-none (S .rule .size) (mail S (send s (report i w (r .lock)))) (Held kind-committed w);
+          votes = each-none (S .rule .size) (mail S (send s (report i w (r .lock)))) (Held kind-prepared w);
+          locks = each-none (S .rule .size) (mail S (send s (report i w (r .lock)))) (Held kind-committed w);
         };
         decides = kept.decides S add (h .decides);
       })

@@ -1,5 +1,5 @@
 -- Agreement, from the invariant: two quorums share a run process. M is what each place reads as.
---     cited-there, member-cited    a cited process has a place that is not 0, and back
+--     cited-there                  a cited process has a place that is not 0
 --     shared                       two quorums share a run process
 --     one-value                    two certificates of one view name one value
 --     proposed                     behind a certificate stands a safe proposal
@@ -13,15 +13,10 @@ use mathlib.Core.List.{List}
 use mathlib.Core.Logic.{_≢_, ⊎-elim}
 use native.Mathlib.Omega.{arith}
 use lib.Dec.{eqb}
-use lib.ListN.{length, getD}
 use Rattle.std.specs.declared.option.Option.{Option}
 use Rattle.std.specs.declared.option.Option.the-variants.{Some, None}
-use Rattle.std.proofs.shelf.Lists.{getD-past}
-use Rattle.std.proofs.shelf.Tests.{eqb-false, ne-eqb, eq-eqb, not-true, not-from-false, false≢true, cond-true, or-right, cases-order, cases-lt}
-use Rattle.sets.specs.Sets.{has, sift}
-use Rattle.sets.proofs.Members.{has-sift}
-use Rattle.quorum.specs.Tallies.{passing}
-use Rattle.quorum.proofs.Slots.{passing-at, passing-past}
+use Rattle.std.proofs.shelf.Tests.{eqb-false, eq-eqb, not-true, cond-true, or-right, cases-order, cases-lt}
+use Rattle.sets.specs.Sets.{has}
 use Rattle.mail.specs.declared.message.Message.{Message}
 use Rattle.mail.specs.Messages.{place-at, held, cited, kind-propose, kind-prepared, kind-committed}
 use Rattle.mail.specs.Leaders.{leader-of}
@@ -30,24 +25,10 @@ use Rattle.protocol.specs.declared.row.Row.{Row}
 use Rattle.protocol.specs.Settings.{Setting, Runs}
 use Rattle.agreement.specs.Promise.{Of, QuorumSent}
 use Rattle.agreement.proofs.Invariant.{Fair, Local}
-
-held-at : (ps : List ℕ) (j : ℕ) → passing held ps j ≡ true → place-at ps j ≢ 0
-held-at ps j h =
-    ⊎-elim (λ (l : j < length ps). eqb-false (place-at ps j) 0 (not-true (eqb (place-at ps j) 0) (sym (passing-at held ps j 0 l) ∙ h)))
-    (λ (g : length ps ≤ j). absurd (false≢true (sym (passing-past held ps j g) ∙ h)))
-    (cases-lt j (length ps))
-
-at-held : (ps : List ℕ) (j : ℕ) → place-at ps j ≢ 0 → passing held ps j ≡ true
-at-held ps j ne =
-    ⊎-elim (λ (l : j < length ps). passing-at held ps j 0 l ∙ not-from-false (eqb (place-at ps j) 0) (ne-eqb (place-at ps j) 0 ne))
-    (λ (g : length ps ≤ j). absurd (ne (getD-past ps j 0 g)))
-    (cases-lt j (length ps))
+use Rattle.agreement.proofs.Backing.{place-tallied}
 
 pub cited-there : (ps : List ℕ) (j : ℕ) → j < 32 → has (cited ps) j ≡ true → place-at ps j ≢ 0
-cited-there ps j h e = held-at ps j (sym (has-sift 32 (passing held ps) j h) ∙ e)
-
-pub member-cited : (ps : List ℕ) (j : ℕ) → j < 32 → place-at ps j ≢ 0 → has (cited ps) j ≡ true
-member-cited ps j h ne = has-sift 32 (passing held ps) j h ∙ at-held ps j ne
+cited-there ps j h e = eqb-false (place-at ps j) 0 (not-true (eqb (place-at ps j) 0) (sym (place-tallied held refl ps j h) ∙ e))
 
 vote-of : {c j v a : ℕ} {x : Message} → Vote c j v a x → Of c j x
 vote-of w = record { kind-is = w .kind-is; sender-is = w .sender-is }
