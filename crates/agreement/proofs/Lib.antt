@@ -10,3 +10,13 @@ pub mod Safety
 pub mod Offers
 pub mod Doings
 pub mod Lively
+pub mod WellFormeds
+pub mod Granted
+pub mod Takings
+pub mod Choices
+pub mod Planned
+pub mod Moved
+pub mod Endings
+pub mod Chains
+pub mod Exacts
+pub mod Opens
