@@ -20,3 +20,11 @@ pub mod Endings
 pub mod Chains
 pub mod Exacts
 pub mod Opens
+pub mod Calm
+pub mod Settled
+pub mod Quiet
+pub mod Turns
+pub mod Heard
+pub mod Milestones
+pub mod Six
+pub mod Promises
