@@ -73,8 +73,8 @@ module _ (S : Setting) (laws : Lawful (S .rule)) where
   settle-chain (suc n) i w = go (move S (w .state) i .answer) refl (settle-chain n i (moved S i w))
     where
       go : (x : Result (Move × ℕ) Refusal) → move S (w .state) i .answer ≡ x → Changes S (move S (w .state) i .state) (settle n S i (moved S i w) .state) → Changes S (w .state) (settle (suc n) S i w .state)
-      go (Ok a) h ih = subst (Changes S (w .state)) (sym (settle-ok S i n w a h)) (longer (way-chain S (w .state) _ (move-way S laws (w .state) i)) ih)
-      go (Err e) h ih = subst (Changes S (w .state)) (sym (settle-err S i n w e h)) none
+      go (Ok a) h ih = subst (λ (x : Sweeping). Changes S (w .state) (x .state)) (sym (settle-ok S i n w a h)) (longer (way-chain S (w .state) _ (move-way S laws (w .state) i)) ih)
+      go (Err e) h ih = subst (λ (x : Sweeping). Changes S (w .state) (x .state)) (sym (settle-err S i n w e h)) none
 
   pub turn-chain : (c : ℕ) (w : Sweeping) (i : ℕ) → Changes S (w .state) (turn S c w i .state)
   turn-chain c w i = go (has (S .foreign) i)

@@ -6,8 +6,8 @@
 --     move-less                a move that is made leaves less to do
 --     ends                     so moves until one is refused end by a refusal
 use Prim.Native.Nat.{ℕ, zero, suc, _+_, _*_, _<_, _≤_}
-use mathlib.Core.Path.{_≡_, refl, ap}
-use mathlib.Core.Bool.{Bool, true, false, not}
+use mathlib.Core.Path.{_≡_, refl, ap, sym, subst}
+use mathlib.Core.Bool.{Bool, true, false, not, cond}
 use native.Mathlib.Omega.{arith}
 use lib.Dec.{ltb}
 use lib.ListN.{length, set}
@@ -32,9 +32,10 @@ use Rattle.protocol.specs.Settings.{Setting, State, Runs, row, mail, put}
 use Rattle.protocol.specs.Rows.{blank-row}
 use Rattle.protocol.specs.Plans.{planned, sends}
 use Rattle.protocol.specs.Calls.{sent, made, moving, after, move}
-use Rattle.protocol.specs.Sweeps.{Sweeping, settle}
+use Rattle.protocol.specs.Sweeps.{Sweeping, is-full, settle}
 use Rattle.protocol.specs.Protocol.{Can, relay, take-up, propose, vote, lock, decide}
 use Rattle.agreement.specs.Exactness.{Lent}
+use Rattle.agreement.proofs.Places.{sent-table}
 use Rattle.agreement.proofs.Granted.{granted, granted-state}
 use Rattle.agreement.proofs.Choices.{highest-same}
 use Rattle.agreement.proofs.Planned.{Right}
@@ -98,23 +99,22 @@ module _ (m : Rule) (laws : Lawful m) (M : ℕ → Message) (i : ℕ) (r : Row) 
   can-less _ (lock p q) = rw p (omega arith)
   can-less _ (decide p d q) = rw d (omega arith)
 
-sent-table : (s : State) (o : Option Message) → sent s o .table ≡ s .table
-sent-table s None = refl
-sent-table s (Some x) = refl
-
 pub made-table : (S : Setting) (s : State) (i : ℕ) (p : Plan) → made S s i (row s i) p .table ≡ set (s .table) i (planned (S .rule .size) (mail S s) (row s i) p)
-made-table S s i p = sent-table (put s i (planned (S .rule .size) (mail S s) (row s i) p)) (sends i (row s i) p)
+made-table S s i p = sent-table S (put s i (planned (S .rule .size) (mail S s) (row s i) p)) (sends i (row s i) p)
 
 -- one move more of a process that settles
 module _ (S : Setting) (i : ℕ) where
   abbrev pub moved : Sweeping → Sweeping
   moved w = record { state = move S (w .state) i .state; accepted = w .accepted; moves = w .moves + 1; stopped = w .stopped }
 
-  pub settle-ok : (n : ℕ) (w : Sweeping) (a : Move × ℕ) → move S (w .state) i .answer ≡ Ok a → settle (suc n) S i w .state ≡ settle n S i (moved w) .state
+  pub settle-ok : (n : ℕ) (w : Sweeping) (a : Move × ℕ) → move S (w .state) i .answer ≡ Ok a → settle (suc n) S i w ≡ settle n S i (moved w)
   unfolding settle
   settle-ok n w a h = rw (h, settle)
 
-  pub settle-err : (n : ℕ) (w : Sweeping) (e : Refusal) → move S (w .state) i .answer ≡ Err e → settle (suc n) S i w .state ≡ w .state
+  abbrev pub halted : Sweeping → Refusal → Sweeping
+  halted w e = record { state = w .state; accepted = w .accepted; moves = w .moves; stopped = w .stopped + cond (is-full e) 1 0 }
+
+  pub settle-err : (n : ℕ) (w : Sweeping) (e : Refusal) → move S (w .state) i .answer ≡ Err e → settle (suc n) S i w ≡ halted w e
   unfolding settle
   settle-err n w e h = rw (h, settle)
 
@@ -139,15 +139,16 @@ module _ (S : Setting) (laws : Lawful (S .rule)) (i : ℕ) where
           let inside = h refl .1 .within in
           rw (granted-state s f _ (made S s i (row s i) p) n, made-row s p (omega arith)) (can-less (S .rule) laws (mail S s) i (row s i) (S .rule .size) p (g .0))
 
-  settles : (n : ℕ) (w : Sweeping) → todo (S .rule) (row (w .state) i) < n → (e : Refusal) × (move S (settle n S i w .state) i .answer ≡ Err e)
+  abbrev Halts : Sweeping → Sweeping → Type 0
+  Halts w x = (e : Refusal) × (move S (x .state) i .answer ≡ Err e) × (x .stopped ≡ w .stopped + cond (is-full e) 1 0)
+
+  settles : (n : ℕ) (w : Sweeping) → todo (S .rule) (row (w .state) i) < n → Halts w (settle n S i w)
   settles zero w l = absurd (omega arith)
   settles (suc n) w l = go (move S (w .state) i .answer) refl (λ a e. settles n (moved S i w) (let d = move-less (w .state) a e in omega arith))
     where
-      go : (x : Result (Move × ℕ) Refusal) → move S (w .state) i .answer ≡ x →
-          ((a : Move × ℕ) → move S (w .state) i .answer ≡ Ok a → (e : Refusal) × (move S (settle n S i (moved S i w) .state) i .answer ≡ Err e)) →
-          (e : Refusal) × (move S (settle (suc n) S i w .state) i .answer ≡ Err e)
-      go (Ok a) h ih = rw (settle-ok S i n w a h) (ih a h)
-      go (Err e) h ih = (e, rw (settle-err S i n w e h) h)
+      go : (x : Result (Move × ℕ) Refusal) → move S (w .state) i .answer ≡ x → ((a : Move × ℕ) → move S (w .state) i .answer ≡ Ok a → Halts w (settle n S i (moved S i w))) → Halts w (settle (suc n) S i w)
+      go (Ok a) h ih = subst (Halts w) (sym (settle-ok S i n w a h)) (ih a h)
+      go (Err e) h ih = subst (Halts w) (sym (settle-err S i n w e h)) (e, h, refl)
 
-  pub ends : (w : Sweeping) → (e : Refusal) × (move S (settle 12 S i w .state) i .answer ≡ Err e)
+  pub ends : (w : Sweeping) → Halts w (settle 12 S i w)
   ends w = settles 12 w (let l = todo-low (S .rule) (row (w .state) i) in omega arith)

@@ -21,7 +21,6 @@ pub mod Chains
 pub mod Exacts
 pub mod Opens
 pub mod Calm
-pub mod Settled
 pub mod Quiet
 pub mod Turns
 pub mod Heard

@@ -2,6 +2,8 @@
 --     fits-is, full-is         what a move that sends asks of the post
 --     move-way                 a move makes a change, or is refused
 --     moves-is, idle-is, full-move-is      when it is made, when there is none, when the post is full
+--     Made S laws s i t, made-by           what an accepted move is
+--     not-full                             a refusal that is not for want of room: no move is possible
 use Prim.Native.Nat.{ℕ, _≤_}
 use mathlib.Core.Path.{_≡_, refl, subst}
 use mathlib.Core.Logic.{_≢_, inl, inr}
@@ -13,13 +15,14 @@ use Rattle.std.specs.declared.option.Option.{Option}
 use Rattle.std.specs.declared.option.Option.the-variants.{Some, None}
 use Rattle.std.specs.Options.{isSome}
 use Rattle.std.specs.declared.result.Result.the-variants.{Ok, Err}
-use Rattle.std.proofs.shelf.Tests.{ltb-true, lt-ltb, cases-lt, le-ltb}
+use Rattle.std.proofs.shelf.Tests.{ltb-true, lt-ltb, cases-lt, le-ltb, both-ways}
 use Rattle.sets.specs.Sets.{has}
 use Rattle.sets.specs.Rules.{Lawful}
 use Rattle.quorum.specs.Firsts.{fault-if, first}
 use Rattle.quorum.proofs.Found.{both-none, none-both, holds-then}
 use Rattle.mail.specs.declared.message.Message.{Message}
 use Rattle.mail.specs.Trust.{Exactly}
+use Rattle.protocol.specs.declared.moves.Move.{Move}
 use Rattle.protocol.specs.declared.moves.Plan.{Plan}
 use Rattle.protocol.specs.declared.refusal.Refusal.{Refusal}
 use Rattle.protocol.specs.declared.refusal.Refusal.the-variants.{ShortTable, PostLength, NoProcess, Foreign, PostFull, NoMove}
@@ -27,6 +30,7 @@ use Rattle.protocol.specs.Numbers.{refusal-numbers}
 use Rattle.protocol.specs.Settings.{Setting, State, Runs, row, mail, has-room}
 use Rattle.protocol.specs.Plans.{plan, sends, move-of}
 use Rattle.protocol.specs.Calls.{lent-fault, run-fault, made, place-sent, moving, after, move}
+use Rattle.protocol.specs.Sweeps.{is-full}
 use Rattle.protocol.specs.Protocol.{Can, Room, makes, stepped}
 use Rattle.agreement.specs.Exactness.{Lent, First}
 use Rattle.agreement.proofs.Granted.{Way, stays, granted, granted-state, refused-is, ways, lent-is, run-is}
@@ -141,3 +145,37 @@ module _ (S : Setting) (laws : Lawful (S .rule)) (s : State) (i : ℕ) where
 
       back : (o : Option Refusal) (q : Option Plan) (p : Plan) → o ≡ None → q ≡ Some p → (sends i (row s i) p ≢ None) × (Room s → ⊥) → after s o (moving S s i (row s i) q) .answer ≡ Err PostFull
       back o q p a b h = let f = full-is s (sends i (row s i) p) .1 h in rw (a, b, f)
+
+  -- what an accepted move is
+  pub record Made (t : State) : Type 0 where
+    pub runs : Runs S i
+    pub by : Plan
+    pub can : Can (S .rule) (mail S s) i (row s i) by
+    pub fit : sends i (row s i) by ≢ None → Room s
+    pub is : t ≡ made S s i (row s i) by
+
+  pub made-by : (a : Move × ℕ) → move S s i .answer ≡ Ok a → Made (move S s i .state)
+  unfolding move
+  made-by a = go before planning (before-is .0) right
+    where
+      go : (o : Option Refusal) (q : Option Plan) → (o ≡ None → Lent S s × Runs S i) → Good q → after s o (moving S s i (row s i) q) .answer ≡ Ok a → Made (after s o (moving S s i (row s i) q) .state)
+      go (Some e) q h g k = let z : _≡_ {A = ℕ} 0 1 = cc in absurd (omega arith)
+      go None None h g k = let z : _≡_ {A = ℕ} 0 1 = cc in absurd (omega arith)
+      go None (Some p) h g k =
+          let f = sent-fault s (sends i (row s i) p) in
+          let n = granted s f _ a (made S s i (row s i) p) .0 k .0 in
+          record { runs = h refl .1; by = p; can = g .0; fit = fits-is s (sends i (row s i) p) .0 n; is = granted-state s f _ (made S s i (row s i) p) n }
+
+  -- a refusal of a run process that is not for want of room
+  pub not-full : Lent S s → Runs S i → (e : Refusal) → is-full e ≡ false → move S s i .answer ≡ Err e → move S s i .answer ≡ Err NoMove
+  unfolding move
+  not-full l u e un = go before planning (before-is .1 (l, u))
+    where
+      go : (o : Option Refusal) (q : Option Plan) → o ≡ None → after s o (moving S s i (row s i) q) .answer ≡ Err e → after s o (moving S s i (row s i) q) .answer ≡ Err NoMove
+      go (Some f) q h k = let z : _≡_ {A = ℕ} 0 1 = cc in absurd (omega arith)
+      go None None h k = refl
+      go None (Some p) h k = absurd (both-ways (is-full e) un (full-only (isSome (sends i (row s i) p) && not (has-room s)) (refused-is s (sent-fault s (sends i (row s i) p)) _ (made S s i (row s i) p) e k)))
+        where
+          full-only : (b : Bool) → fault-if b PostFull ≡ Some e → is-full e ≡ true
+          full-only true x = let f : PostFull ≡ e = cc in subst (λ (y : Refusal). is-full y ≡ true) f refl
+          full-only false x = let z : _≡_ {A = ℕ} 0 1 = cc in absurd (omega arith)

@@ -28,7 +28,7 @@ use Rattle.protocol.specs.declared.moves.Plan.the-variants.{Relay, TakeUp, Prop
 use Rattle.protocol.specs.Numbers.{move-number}
 use Rattle.protocol.specs.Plans.{backers, choice, vote-plan, plan, move-of}
 use Rattle.protocol.specs.Protocol.{Hopeful, Settled, Can, relay, take-up, propose, vote, lock, decide}
-use Rattle.agreement.proofs.Takings.{leads-is}
+use Rattle.mail.proofs.Judged.{leads-is}
 use Rattle.agreement.proofs.Choices.{highest-same, chosen-same, choice-chosen}
 
 fault-some : (b : Bool) (p q : Plan) → fault-if b p ≡ Some q → (b ≡ true) × (p ≡ q)

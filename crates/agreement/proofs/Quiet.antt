@@ -27,14 +27,15 @@ use Rattle.protocol.specs.Settings.{Setting, State, outcome, Runs, row, mail, p
 use Rattle.protocol.specs.Plans.{sends}
 use Rattle.protocol.specs.Calls.{addressed, post, taken, deliver, made, move}
 use Rattle.protocol.specs.Runs.{carry-out}
-use Rattle.protocol.specs.Protocol.{Room, Reached}
+use Rattle.protocol.specs.Protocol.{Can, Room, Reached}
 use Rattle.protocol.specs.Protocol.Reached.{after}
 use Rattle.agreement.specs.Exactness.{Lent, Follows, Accepts, Exact}
 use Rattle.agreement.proofs.Invariant.{Fair}
 use Rattle.agreement.proofs.Lively.{vivid}
 use Rattle.agreement.proofs.Calm.{Onward, onward-refl, onward-trans, onward-change, lent, Calm, hope-low, calm-send}
-use Rattle.agreement.proofs.Settled.{Guard, move-runs, made-by, outcome-ok}
-use Rattle.agreement.proofs.Settled.Guard.{relay, take-up, propose, vote, lock, decide}
+use Rattle.agreement.proofs.Granted.{granted, granted-state}
+use Rattle.agreement.proofs.Moved.{made-by}
+use Rattle.protocol.specs.Protocol.Can.{relay, take-up, propose, vote, lock, decide}
 
 pub record Going (S : Setting) (v : ℕ) (s : State) : Type 0 where
   pub reached : Reached S s
@@ -85,15 +86,15 @@ module _ (S : Setting) (fair : Fair S) (exact : Exact (S .rule) (S .valid)) (v :
         go (Err e) h = refused (Deliver i k) e (rw h)
         go (Ok a) h = accepted (Deliver i k) (λ e. let z : _≡_ {A = ℕ} 0 1 = cc in omega arith) answer.Delivered (rw h) (delivered-calm i k)
 
-    made-calm : (i : ℕ) → Runs S i → (p : Plan) → Guard (S .rule) (row s i) p → (sends i (row s i) p ≢ None → Room s) → Calm S v (made S s i (row s i) p)
-    made-calm i run p (relay l) fit =
+    made-calm : (i : ℕ) → Runs S i → (p : Plan) → Can (S .rule) (mail S s) i (row s i) p → (sends i (row s i) p ≢ None → Room s) → Calm S v (made S s i (row s i) p)
+    made-calm i run p (relay w hope l) fit =
         calm-send S v s (g .calm) _ (fit (λ e. let z : _≡_ {A = ℕ} 0 1 = cc in omega arith))
-        (λ j h o. hope-low S fair v s (vivid S fair (g .reached)) (g .calm) i run _ (accepts .hopes (row s i .wishes)))
-    made-calm i run p (take-up w l e) fit = calm-send S v s (g .calm) _ (fit (λ e. let z : _≡_ {A = ℕ} 0 1 = cc in omega arith)) (λ j h o. absurd (omega (arith, o .kind-is)))
-    made-calm i run p (propose a e) fit = calm-send S v s (g .calm) _ (fit (λ e. let z : _≡_ {A = ℕ} 0 1 = cc in omega arith)) (λ j h o. absurd (omega (arith, o .kind-is)))
-    made-calm i run p (vote a e) fit = calm-send S v s (g .calm) _ (fit (λ e. let z : _≡_ {A = ℕ} 0 1 = cc in omega arith)) (λ j h o. absurd (omega (arith, o .kind-is)))
-    made-calm i run p (lock e) fit = calm-send S v s (g .calm) _ (fit (λ e. let z : _≡_ {A = ℕ} 0 1 = cc in omega arith)) (λ j h o. absurd (omega (arith, o .kind-is)))
-    made-calm i run p (decide e) fit = g .calm
+        (λ j h o. hope-low S fair v s (vivid S fair (g .reached)) (g .calm) i run w hope)
+    made-calm i run p (take-up w hope settles l) fit = calm-send S v s (g .calm) _ (fit (λ e. let z : _≡_ {A = ℕ} 0 1 = cc in omega arith)) (λ j h o. absurd (omega (arith, o .kind-is)))
+    made-calm i run p (propose a lead un q ch) fit = calm-send S v s (g .calm) _ (fit (λ e. let z : _≡_ {A = ℕ} 0 1 = cc in omega arith)) (λ j h o. absurd (omega (arith, o .kind-is)))
+    made-calm i run p (vote is some) fit = calm-send S v s (g .calm) _ (fit (λ e. let z : _≡_ {A = ℕ} 0 1 = cc in omega arith)) (λ j h o. absurd (omega (arith, o .kind-is)))
+    made-calm i run p (lock is q) fit = calm-send S v s (g .calm) _ (fit (λ e. let z : _≡_ {A = ℕ} 0 1 = cc in omega arith)) (λ j h o. absurd (omega (arith, o .kind-is)))
+    made-calm i run p (decide is un q) fit = g .calm
 
     pub moves : (i : ℕ) → Passes S v s (move S s i .state)
     moves i = go (move S s i .answer) refl
@@ -101,13 +102,12 @@ module _ (S : Setting) (fair : Fair S) (exact : Exact (S .rule) (S .valid)) (v :
         go : (o : Result (Move × ℕ) Refusal) → move S s i .answer ≡ o → Passes S v s (move S s i .state)
         go (Err e) h = refused (MakeMove i) e (rw h)
         go (Ok a) h =
-            let run = move-runs S s i a h in
-            let y = made-by S s i is-lent run a h in
-            accepted (MakeMove i) (λ e. let z : _≡_ {A = ℕ} 0 1 = cc in omega arith) (answer.Moved (a .0) (a .1)) (rw h) (rw (y .is) (made-calm i run (y .by) (y .guarded) (y .fit)))
+            let y = made-by S (fair .laws) s i a h in
+            accepted (MakeMove i) (λ e. let z : _≡_ {A = ℕ} 0 1 = cc in omega arith) (answer.Moved (a .0) (a .1)) (rw h) (rw (y .is) (made-calm i (y .runs) (y .by) (y .can) (y .fit)))
 
     posted-is : (j k : ℕ) (p : Posting) → post S s j p .answer ≡ Ok k → post S s j p .state ≡ send s (addressed j p)
     unfolding post
-    posted-is j k p h = outcome-ok s _ (s .count + 1) (send s (addressed j p)) k h .1
+    posted-is j k p h = granted-state s _ (s .count + 1) (send s (addressed j p)) (granted s _ (s .count + 1) k (send s (addressed j p)) .0 h .0)
 
     pub posts : (j : ℕ) (p : Posting) → Passes S v s (post S s j p .state)
     posts j p = go (post S s j p .answer) refl

@@ -5,7 +5,6 @@
 --     delivers-is          a delivery is answered exactly when the protocol allows it
 --     delivered-is         the state after it
 --     deliver-way          a delivery makes a change, or is refused
---     leads-is             who leads, by the test
 use Prim.Native.Nat.{ℕ, zero, suc, _≤_}
 use mathlib.Core.Path.{_≡_, refl, sym, ap, subst, _∙_}
 use mathlib.Core.Logic.{_≢_, inl, inr}
@@ -26,7 +25,7 @@ use Rattle.mail.specs.Messages.{place-at, blank, silence, proper, posted, kind-
 use Rattle.mail.specs.Leaders.{leader-of, leads}
 use Rattle.mail.specs.Judging.{report-fault, proposal-fault}
 use Rattle.mail.specs.Trust.{Exactly, Judging}
-use Rattle.mail.proofs.Judged.{judging}
+use Rattle.mail.proofs.Judged.{judging, leads-is, mapped-none}
 use Rattle.protocol.specs.declared.row.Row.{Row}
 use Rattle.protocol.specs.declared.refusal.Refusal.{Refusal}
 use Rattle.protocol.specs.declared.refusal.Refusal.the-variants.{NoMessage, Held, NotLeader, InReport, InProposal}
@@ -36,17 +35,6 @@ use Rattle.protocol.specs.Calls.{lent-fault, run-fault, timely, vacant, by-kind
 use Rattle.protocol.specs.Protocol.{Takes, heard, reported, offered, prepared, committed, takes, stepped}
 use Rattle.agreement.specs.Exactness.{Lent}
 use Rattle.agreement.proofs.Granted.{Way, four, granted, granted-state, ways, no-fault, lent-is, run-is}
-
-mapped-none : {E F : Type 0} (C : E → F) (o : Option E) → Exactly (mapped C o ≡ None) (o ≡ None)
-mapped-none C None = ((λ _. refl), (λ _. refl))
-mapped-none C (Some e) = ((λ h. let z : _≡_ {A = ℕ} 0 1 = cc in absurd (omega arith)), (λ h. let z : _≡_ {A = ℕ} 0 1 = cc in absurd (omega arith)))
-
-leads-some : (o : Option ℕ) (j : ℕ) → Exactly (elim o [ None ↦ false | Some i ↦ eqb i j ] ≡ true) (o ≡ Some j)
-leads-some None j = ((λ h. absurd (false≢true h)), (λ h. let z : _≡_ {A = ℕ} 0 1 = cc in absurd (omega arith)))
-leads-some (Some i) j = ((λ h. ap (λ (n : ℕ). Some n) (eqb-true i j h)), (λ h. eq-eqb i j (cc)))
-
-pub leads-is : (n v j : ℕ) → Exactly (leads n v j ≡ true) (leader-of n v ≡ Some j)
-leads-is n v j = leads-some (leader-of n v) j
 
 -- a place has no kind above the fifth
 few-kinds : (n : ℕ) (post : List Message) (c k : ℕ) → posted n post c k .kind ≤ kind-committed

@@ -30,7 +30,7 @@ use Rattle.agreement.specs.Exactness.{Lent, Exact}
 use Rattle.agreement.proofs.Invariant.{Fair}
 use Rattle.agreement.proofs.Lively.{vivid}
 use Rattle.agreement.proofs.Calm.{view-low}
-use Rattle.agreement.proofs.Settled.{refused-is, settled-by}
+use Rattle.agreement.proofs.Moved.{not-full}
 use Rattle.agreement.proofs.Quiet.{Going, Passes, passes-refl, passes-trans, accepts, is-lent, delivers, moves}
 
 abbrev pub ended : Setting → ℕ → ℕ → Sweeping → Sweeping
@@ -92,7 +92,7 @@ module _ (S : Setting) (fair : Fair S) (exact : Exact (S .rule) (S .valid)) (v :
     from-delivered p l = passes-trans (given-between i w g c (suc p) l) (settle-passes 12 i (given-all S i w c) (given .going))
 
     refusal : (e : Refusal) × (move S (ended S c i w .state) i .answer ≡ Err e) × (ended S c i w .stopped ≡ given-all S i w c .stopped + cond (is-full e) 1 0)
-    refusal = settled-by S i run (given-all S i w c) (is-lent S fair exact v (given-all S i w c .state) (given .going))
+    refusal = exact .ends S refl refl i (given-all S i w c)
 
     end-stopped : ended S c i w .stopped ≡ 0 → w .stopped ≡ 0
     end-stopped z = omega (arith, z, refusal .2, given-stopped i w c)
@@ -105,7 +105,7 @@ module _ (S : Setting) (fair : Fair S) (exact : Exact (S .rule) (S .valid)) (v :
     no-moves z =
         let l = is-lent S fair exact v (ended S c i w .state) (to-end .going) in
         let a = accepts S fair exact v (ended S c i w .state) (to-end .going) in
-        a .idle i .0 (refused-is S (ended S c i w .state) i l run (refusal .0) (no-full (is-full (refusal .0)) _ _ z (refusal .2)) (refusal .1)) .2
+        a .idle i .0 (not-full S (fair .laws) (ended S c i w .state) i l run (refusal .0) (no-full (is-full (refusal .0)) _ _ z (refusal .2)) (refusal .1)) .2
 
   turn-passes : (c n : ℕ) (w : Sweeping) → Going S v (w .state) → n < S .rule .size → Passes S v (w .state) (turn S c w n .state)
   turn-passes c n w g l = go (has (S .foreign) n) refl

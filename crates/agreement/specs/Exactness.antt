@@ -8,7 +8,7 @@
 --     Exact m valid         this, of every committee over these rules
 use Prim.Native.Nat.{ℕ, _+_, _<_, _≤_}
 use mathlib.Core.Path.{_≡_}
-use mathlib.Core.Bool.{Bool, true, false, not}
+use mathlib.Core.Bool.{Bool, true, false, cond}
 use mathlib.Core.Logic.{_≢_}
 use mathlib.Core.List.{List}
 use lib.ListN.{length}
@@ -28,7 +28,7 @@ use Rattle.protocol.specs.Numbers.{move-number}
 use Rattle.protocol.specs.Settings.{Setting, State, Runs, row, mail, put, send}
 use Rattle.protocol.specs.Plans.{wish, sends, move-of}
 use Rattle.protocol.specs.Calls.{expire, addressed, post, deliver, made, place-sent, move}
-use Rattle.protocol.specs.Sweeps.{Sweeping, settle}
+use Rattle.protocol.specs.Sweeps.{Sweeping, is-full, settle}
 use Rattle.protocol.specs.Runs.{carry-out}
 use Rattle.protocol.specs.Protocol.{Hopeful, Settled, Takes, Can, Room, WellFormed, Step, Change}
 use Rattle.quorum.specs.Wishes.{hopeful, settled}
@@ -69,9 +69,11 @@ pub record Accepts (S : Setting) (s : State) : Type 0 where
   pub posts : (j k : ℕ) (p : Posting) → Exactly (post S s j p .answer ≡ Ok k)
       (Lent S s × (j < S .rule .size) × (has (S .foreign) j ≡ true) × WellFormed (S .rule .size) (s .count) (addressed j p) × Room s × (k ≡ s .count + 1))
 
--- the state after moves until one is refused is one in which a move is refused
+-- moves until one is refused end by a refusal, which is counted if the post was full
 abbrev pub Ends : Setting → Type 0
-Ends S = (i : ℕ) (w : Sweeping) → (e : Refusal) × (move S (settle 12 S i w .state) i .answer ≡ Err e)
+Ends S =
+    (i : ℕ) (w : Sweeping) →
+    (e : Refusal) × (move S (settle 12 S i w .state) i .answer ≡ Err e) × (settle 12 S i w .stopped ≡ w .stopped + cond (is-full e) 1 0)
 
 pub record Exact (m : Rule) (valid : ℕ → Bool) : Type 0 where
   pub follows : (S : Setting) (s : State) → S .rule ≡ m → S .valid ≡ valid → Follows S s

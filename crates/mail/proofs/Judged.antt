@@ -1,4 +1,7 @@
 -- The judging finds no fault exactly in certificates, in valid reports and in safe proposals. Place 0 reads as the zero message.
+--     leads-is         who leads, by the test
+--     mapped-none      no fault of a lower layer
+--     judging          all three
 use Prim.Native.Nat.{ℕ, _<_, _≤_}
 use mathlib.Core.Path.{_≡_, refl, sym, ap, subst, _∙_}
 use mathlib.Core.Logic.{_≢_, ⊎-elim}
@@ -31,9 +34,12 @@ vote-is kind j v a x = (
   (λ h. rw (eq-eqb (x .kind) kind (h .kind-is), eq-eqb (x .sender) j (h .sender-is), eq-eqb (x .view) v (h .view-is), eq-eqb (x .value) a (h .value-is))),
 )
 
-leads-is : (o : Option ℕ) (j : ℕ) → Exactly (elim o [ None ↦ false | Some i ↦ eqb i j ] ≡ true) (o ≡ Some j)
-leads-is None j = ((λ h. absurd (false≢true h)), (λ h. let z : _≡_ {A = ℕ} 0 1 = cc in absurd (omega arith)))
-leads-is (Some i) j = ((λ h. ap (λ (n : ℕ). Some n) (eqb-true i j h)), (λ h. eq-eqb i j (cc)))
+leads-some : (o : Option ℕ) (j : ℕ) → Exactly (elim o [ None ↦ false | Some i ↦ eqb i j ] ≡ true) (o ≡ Some j)
+leads-some None j = ((λ h. absurd (false≢true h)), (λ h. let z : _≡_ {A = ℕ} 0 1 = cc in absurd (omega arith)))
+leads-some (Some i) j = ((λ h. ap (λ (n : ℕ). Some n) (eqb-true i j h)), (λ h. eq-eqb i j (cc)))
+
+pub leads-is : (n v j : ℕ) → Exactly (leads n v j ≡ true) (leader-of n v ≡ Some j)
+leads-is n v j = leads-some (leader-of n v) j
 
 -- a fault where a place is held, and what it asks of that place
 held-then : {F : Type 0} (k : ℕ) (o : Option F) → Exactly (cond (held k) o None ≡ None) (k ≢ 0 → o ≡ None)
@@ -42,7 +48,7 @@ held-then k o = (
   (λ h. ⊎-elim (λ (z : k ≡ 0). rw (eq-eqb k 0 z)) (λ (ne : k ≢ 0). rw (ne-eqb k 0 ne) (h ne)) (cases-eq k 0)),
 )
 
-mapped-none : {E F : Type 0} (C : E → F) (o : Option E) → Exactly (mapped C o ≡ None) (o ≡ None)
+pub mapped-none : {E F : Type 0} (C : E → F) (o : Option E) → Exactly (mapped C o ≡ None) (o ≡ None)
 mapped-none C None = ((λ _. refl), (λ _. refl))
 mapped-none C (Some e) = ((λ h. let z : _≡_ {A = ℕ} 0 1 = cc in absurd (omega arith)), (λ h. let z : _≡_ {A = ℕ} 0 1 = cc in absurd (omega arith)))
 
@@ -153,14 +159,14 @@ module _ (m : Rule) (M : ℕ → Message) where
               let c = both-none (fault-if (not few) _) _ (b .1) in
               let d = both-none (first-below (citation-fault m M x k) (m .size)) _ (c .1) in
               record {
-                leads = leads-is (leader-of (m .size) (x .view)) (x .sender) .0 (holds-then led _ .0 (a .0));
+                leads = leads-is (m .size) (x .view) (x .sender) .0 (holds-then led _ .0 (a .0));
                 valued = holds-then (valid (x .value)) _ .0 (b .0);
                 quorum = holds-then few _ .0 (c .0);
                 each = λ j l ne. citation-is x k j .0 (none-below (citation-fault m M x k) (m .size) (d .0) j l) ne;
                 highest = highest-is x .0 (holds-then (is-highest (m .size) M x) _ .0 (d .1));
               }),
           (λ h.
-              none-both _ _ (holds-then led _ .1 (leads-is (leader-of (m .size) (x .view)) (x .sender) .1 (h .leads)))
+              none-both _ _ (holds-then led _ .1 (leads-is (m .size) (x .view) (x .sender) .1 (h .leads)))
               (none-both _ _ (holds-then (valid (x .value)) _ .1 (h .valued))
               (none-both _ _ (holds-then few _ .1 (h .quorum))
               (none-both _ _ (below-none (citation-fault m M x k) (m .size) (λ j l. citation-is x k j .1 (h .each j l)))
