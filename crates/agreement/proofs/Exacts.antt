@@ -25,7 +25,7 @@ use Rattle.protocol.specs.Protocol.{Change, Reached}
 use Rattle.agreement.specs.Exactness.{Changes, Follows, Accepts, Exact}
 use Rattle.agreement.proofs.Granted.{Way, stays, goes, expires-is, expire-way, posts-is, post-way}
 use Rattle.agreement.proofs.Takings.{delivers-is, delivered-is, deliver-way}
-use Rattle.agreement.proofs.Moved.{move-way, moves-is, idle-is, full-move-is}
+use Rattle.agreement.proofs.Moved.{move-way, moved-is, moves-is, idle-is, full-move-is}
 use Rattle.agreement.proofs.Endings.{ends}
 use Rattle.agreement.proofs.Chains.{way-chain, sweep-chain, sweep-refused, chain-foreign, chain-reached}
 
@@ -90,7 +90,8 @@ module _ (S : Setting) (laws : Lawful (S .rule)) (s : State) where
     settles = views-are (S .rule) laws .settled-is;
     delivers = delivers-is S s;
     delivered = delivered-is S s;
-    moves = λ i p. moves-is S laws s i p;
+    moves = λ i x. moves-is S laws s i x;
+    moved = λ i p. moved-is S laws s i p;
     idle = idle-is S laws s;
     full = full-move-is S laws s;
     expires = λ i k. expires-is S s i k;

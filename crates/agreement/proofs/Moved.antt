@@ -1,6 +1,7 @@
 -- A move is made, or refused, exactly when the protocol says so. The rule is lawful.
 --     fits-is, full-is         what a move that sends asks of the post
 --     move-way                 a move makes a change, or is refused
+--     moved-is                 the state after the first possible move
 --     moves-is, idle-is, full-move-is      when it is made, when there is none, when the post is full
 --     Made S laws s i t, made-by           what an accepted move is
 --     not-full                             a refusal that is not for want of room: no move is possible
@@ -103,16 +104,33 @@ module _ (S : Setting) (laws : Lawful (S .rule)) (s : State) (i : ℕ) where
       go None None h g = stays NoMove refl refl
       go None (Some p) h g = ways s S _ _ _ (λ n. stepped i (h refl .1) (makes p (g .0) (fits-is s (sends i (row s i) p) .0 n)))
 
-  pub moves-is : (p : Plan) → Lent S s → Runs S i → First S s i p → (sends i (row s i) p ≢ None → Room s) →
+  made-first : (p : Plan) → Lent S s → Runs S i → First S s i p → (sends i (row s i) p ≢ None → Room s) →
       (move S s i .answer ≡ Ok (move-of p, place-sent s (sends i (row s i) p))) × (move S s i .state ≡ made S s i (row s i) p)
   unfolding move
-  moves-is p l u f fit = go before planning (before-is .1 (l, u)) (first-planned (S .rule) laws (mail S s) i (row s i) p (f .can) (f .lowest))
+  made-first p l u f fit = go before planning (before-is .1 (l, u)) (first-planned (S .rule) laws (mail S s) i (row s i) p (f .can) (f .lowest))
     where
       go : (o : Option Refusal) (q : Option Plan) → o ≡ None → q ≡ Some p →
           (after s o (moving S s i (row s i) q) .answer ≡ Ok (move-of p, place-sent s (sends i (row s i) p))) × (after s o (moving S s i (row s i) q) .state ≡ made S s i (row s i) p)
       go o q a b =
           let n = fits-is s (sends i (row s i) p) .1 fit in
           rw (a, b) (granted s (sent-fault s (sends i (row s i) p)) _ _ (made S s i (row s i) p) .1 (n, refl), granted-state s (sent-fault s (sends i (row s i) p)) _ (made S s i (row s i) p) n)
+
+  pub moved-is : (p : Plan) → Lent S s → Runs S i → First S s i p → (sends i (row s i) p ≢ None → Room s) → move S s i .state ≡ made S s i (row s i) p
+  moved-is p l u f fit = made-first p l u f fit .1
+
+  abbrev Makes : Move × ℕ → Type 0
+  Makes x = Lent S s × Runs S i × ((p : Plan) × First S s i p × (sends i (row s i) p ≢ None → Room s) × (x ≡ (move-of p, place-sent s (sends i (row s i) p))))
+
+  pub moves-is : (x : Move × ℕ) → Exactly (move S s i .answer ≡ Ok x) (Makes x)
+  unfolding move
+  moves-is x = (go before planning (before-is .0) right, (λ h. rw (h .2 .3) (made-first (h .2 .0) (h .0) (h .1) (h .2 .1) (h .2 .2) .0)))
+    where
+      go : (o : Option Refusal) (q : Option Plan) → (o ≡ None → Lent S s × Runs S i) → Good q → after s o (moving S s i (row s i) q) .answer ≡ Ok x → Makes x
+      go (Some e) q h g k = let z : _≡_ {A = ℕ} 0 1 = cc in absurd (omega arith)
+      go None None h g k = let z : _≡_ {A = ℕ} 0 1 = cc in absurd (omega arith)
+      go None (Some p) h g k =
+          let b = granted s (sent-fault s (sends i (row s i) p)) _ x (made S s i (row s i) p) .0 k in
+          (h refl .0, h refl .1, (p, record { can = g .0; lowest = g .1 }, fits-is s (sends i (row s i) p) .0 (b .0), b .1))
 
   pub idle-is : Exactly (move S s i .answer ≡ Err NoMove) (Lent S s × Runs S i × ((p : Plan) → Can (S .rule) (mail S s) i (row s i) p → ⊥))
   unfolding move

@@ -18,6 +18,7 @@ use Rattle.sets.specs.Sets.{has}
 use Rattle.sets.specs.Rules.{Rule}
 use Rattle.mail.specs.Trust.{Exactly}
 use Rattle.protocol.specs.declared.row.Row.{Row}
+use Rattle.protocol.specs.declared.moves.Move.{Move}
 use Rattle.protocol.specs.declared.moves.Plan.{Plan}
 use Rattle.protocol.specs.declared.call.Call.{Call}
 use Rattle.protocol.specs.declared.call.Call.the-variants.{Sweep}
@@ -61,8 +62,9 @@ pub record Accepts (S : Setting) (s : State) : Type 0 where
   pub delivers : (i k : ℕ) → Exactly (deliver S s i k .answer ≡ Ok tt) (Lent S s × Runs S i × ((r : Row) × Takes S (mail S s) i (row s i) k r))
   pub delivered : (i k : ℕ) (r : Row) → Lent S s → Runs S i → Takes S (mail S s) i (row s i) k r → deliver S s i k .state ≡ put s i r
   -- a move is made: the first that is possible, where it sends nothing or there is room
-  pub moves : (i : ℕ) (p : Plan) → Lent S s → Runs S i → First S s i p → (sends i (row s i) p ≢ None → Room s) →
-      (move S s i .answer ≡ Ok (move-of p, place-sent s (sends i (row s i) p))) × (move S s i .state ≡ made S s i (row s i) p)
+  pub moves : (i : ℕ) (x : Move × ℕ) → Exactly (move S s i .answer ≡ Ok x) (Lent S s × Runs S i ×
+      ((p : Plan) × First S s i p × (sends i (row s i) p ≢ None → Room s) × (x ≡ (move-of p, place-sent s (sends i (row s i) p)))))
+  pub moved : (i : ℕ) (p : Plan) → Lent S s → Runs S i → First S s i p → (sends i (row s i) p ≢ None → Room s) → move S s i .state ≡ made S s i (row s i) p
   pub idle : (i : ℕ) → Exactly (move S s i .answer ≡ Err NoMove) (Lent S s × Runs S i × ((p : Plan) → Can (S .rule) (mail S s) i (row s i) p → ⊥))
   pub full : (i : ℕ) → Exactly (move S s i .answer ≡ Err PostFull) (Lent S s × Runs S i × ((p : Plan) × First S s i p × (sends i (row s i) p ≢ None) × (Room s → ⊥)))
   pub expires : (i k : ℕ) → Exactly (expire S s i .answer ≡ Ok k) (Lent S s × Runs S i × (row s i .ballot .view < 4294967295) × Room s × (k ≡ s .count + 1))
