@@ -1,2 +1,3 @@
 // Theorems about the protocol.
+#![tactic(auto)]
 pub mod claims;

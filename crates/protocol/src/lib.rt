@@ -1,4 +1,5 @@
 // Rows, refusals, moves and calls. What each call does stands in specs/.
+#![tactic(auto)]
 pub mod call;
 pub mod claims;
 pub mod moves;

@@ -1,4 +1,5 @@
 // Carries out a script of calls: reads lines from standard input, answers each, and says at the end where each run process stands.
+#![tactic(auto)]
 use mail::message::{Message, SILENCE};
 use protocol::row::Row;
 use rehearsal::player::Player;

@@ -1,4 +1,5 @@
 // What a roll gives each hall: reads rolls, a line each, and prints what every process of each can do.
+#![tactic(auto)]
 mod rolls;
 mod standing;
 mod summary;

@@ -1,4 +1,5 @@
 // What one process does with its row: it takes a message, plans a move and makes it.
+#![tactic(auto)]
 mod choosing;
 pub mod perform;
 pub mod plan;

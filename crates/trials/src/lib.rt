@@ -1,4 +1,5 @@
 // Tests of the crates below, by tables of cases.
+#![tactic(auto)]
 #[cfg(test)]
 mod counting;
 #[cfg(test)]

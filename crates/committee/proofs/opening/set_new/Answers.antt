@@ -8,4 +8,4 @@ unfolding new_rows
 loop-slot-init c = (refl, refl)
 
 pub loop-slot-preserved : goal.loop-slot-preserved
-loop-slot-preserved c = (rows_more _ _ _ c.loop-slot.slot _ c.loop-slot.invariant.0 c.new-row.ensures, length-set _ _ _ ∙ c.loop-slot.invariant.1)
+loop-slot-preserved c = (rows_more _ _ _ c.loop-slot.slot _ c.loop-slot.invariant.0 c.new_row.ensures, length-set _ _ _ ∙ c.loop-slot.invariant.1)

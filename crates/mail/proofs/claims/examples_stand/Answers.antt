@@ -8,7 +8,7 @@ use Rattle.mail.proofs.claims.examples_stand.Goals as goal
 pub returns : goal.returns
 unfolding has sift weigh counting posted certificate_fault top_lock carries proposal_fault
 returns c = record {
-  rules = c.rule-examples-stand.ensures;
+  rules = c.rule_examples_stand.ensures;
   leaders = (refl, refl, refl, refl);
   no_leader = refl;
   locked_in_its_view = refl;

@@ -13,10 +13,10 @@ loop-process-preserved g c =
     let laws = g.Q.QuorumRule.lawful c.args.rule.now in
     let xs = c.args.wishes.now in
     let k = c.loop-process.process in
-    let w = c.wish-of-view.result in
+    let w = c.wish_of-view.result in
     let s = c.tally-wishing.result.bits in
-    let wish_is = c.wish-of-view.ensures in
+    let wish_is = c.wish_of-view.ensures in
     let set_is = c.tally-wishing.ensures in (
-      highest_more (λ (t : ℕ). not (m.tolerated t)) xs k c.loop-process.hopeful w s c.raise-hopeful.result c.is-blocking.result c.loop-process.invariant.0 wish_is set_is (asks_blocking m laws s _ c.is-blocking.ensures) c.raise-hopeful.ensures,
-      highest_more m.quorum xs k c.loop-process.settled w s c.raise-settled.result c.is-quorum.result c.loop-process.invariant.1 wish_is set_is c.is-quorum.ensures c.raise-settled.ensures,
+      highest_more (λ (t : ℕ). not (m.tolerated t)) xs k c.loop-process.hopeful w s c.raise-hopeful.result c.is_blocking.result c.loop-process.invariant.0 wish_is set_is (asks_blocking m laws s _ c.is_blocking.ensures) c.raise-hopeful.ensures,
+      highest_more m.quorum xs k c.loop-process.settled w s c.raise-settled.result c.is_quorum.result c.loop-process.invariant.1 wish_is set_is c.is_quorum.ensures c.raise-settled.ensures,
     )

@@ -7,8 +7,8 @@ pub loop-j-init : goal.loop-j-init
 unfolding weigh
 loop-j-init c = (refl, omega arith)
 
-pub overflow-add-sum : goal.overflow-add-sum
-overflow-add-sum c = let le = share_le _ _ _ _ c.share-sum.ensures (c.requires.light c.loop-j.j) in omega arith
+pub overflow_add-sum : goal.overflow_add-sum
+overflow_add-sum c = let le = share_le _ _ _ _ c.share-sum.ensures (c.requires.light c.loop-j.j) in omega arith
 
 pub loop-j-preserved : goal.loop-j-preserved
 unfolding weigh

@@ -5,7 +5,7 @@ use Rattle.roll.proofs.rolls.narrowed.Goals as goal
 
 pub loop-n-preserved : goal.loop-n-preserved
 loop-n-preserved c =
-    c.in-ok-push.ensures.items
+    c.in_ok-push.ensures.items
     ∙ rw (c.min.ensures, c.loop-n.invariant) (sym (map_more narrow c.args.numbers.now c.loop-n.n-index 0 c.loop-n-test.true))
 
 pub returns : goal.returns

@@ -6,17 +6,17 @@ returns-then-row-hopeful g c =
     let m = g.Q.QuorumRule.meaning c.args.rule.now in
     by_relay m c.args.post.now c.args.count c.args.process c.args.row.now _ c.views-hopeful.ensures c.if-row-hopeful.true
 
-pub returns-then-may-take-up : goal.returns-then-may-take-up
-returns-then-may-take-up g c =
+pub returns-then-may_take_up : goal.returns-then-may_take_up
+returns-then-may_take_up g c =
     let m = g.Q.QuorumRule.meaning c.args.rule.now in
-    by_take_up m c.args.post.now c.args.count c.args.process c.args.row.now _ c.views-hopeful.ensures c.if-row-hopeful.false _ c.may-take-up.ensures c.if-may-take-up.true
+    by_take_up m c.args.post.now c.args.count c.args.process c.args.row.now _ c.views-hopeful.ensures c.if-row-hopeful.false _ c.may_take_up.ensures c.if-may_take_up.true
 
-pub returns-then-may-propose : goal.returns-then-may-propose
-returns-then-may-propose g c =
+pub returns-then-may_propose : goal.returns-then-may_propose
+returns-then-may_propose g c =
     let m = g.Q.QuorumRule.meaning c.args.rule.now in
-    by_proposal m c.args.post.now c.args.count c.args.process c.args.row.now _ c.views-hopeful.ensures c.if-row-hopeful.false _ c.may-take-up.ensures c.if-may-take-up.false _ c.size-size.ensures _ c.may-propose.ensures c.if-may-propose.true _ c.choose-value.ensures
+    by_proposal m c.args.post.now c.args.count c.args.process c.args.row.now _ c.views-hopeful.ensures c.if-row-hopeful.false _ c.may_take_up.ensures c.if-may_take_up.false _ c.size-size.ensures _ c.may_propose.ensures c.if-may_propose.true _ c.choose-value.ensures
 
 pub returns : goal.returns
 returns g c =
     let m = g.Q.QuorumRule.meaning c.args.rule.now in
-    by_vote m c.args.post.now c.args.count c.args.process c.args.row.now _ c.views-hopeful.ensures c.if-row-hopeful.false _ c.may-take-up.ensures c.if-may-take-up.false _ c.size-size.ensures _ c.may-propose.ensures c.if-may-propose.false _ c.plan-vote.ensures
+    by_vote m c.args.post.now c.args.count c.args.process c.args.row.now _ c.views-hopeful.ensures c.if-row-hopeful.false _ c.may_take_up.ensures c.if-may_take_up.false _ c.size-size.ensures _ c.may_propose.ensures c.if-may_propose.false _ c.plan_vote.ensures

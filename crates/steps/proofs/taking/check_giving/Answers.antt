@@ -4,16 +4,16 @@ use Rattle.steps.proofs.Senders.{sender_lawful}
 use Rattle.steps.proofs.taking.check_giving.Goals as goal
 
 pub bounds-row-sender : goal.bounds-row-sender
-bounds-row-sender g c = sender_lawful _ (g.Q.QuorumRule.lawful c.args.rule.now) _ c.size.ensures c.args.post.now c.args.count c.args.place _ c.message-at-message.ensures
+bounds-row-sender g c = sender_lawful _ (g.Q.QuorumRule.lawful c.args.rule.now) _ c.size.ensures c.args.post.now c.args.count c.args.place _ c.message_at-message.ensures
 
-pub check-report-requires : goal.check-report-requires
-check-report-requires g c = sender_lawful _ (g.Q.QuorumRule.lawful c.args.rule.now) _ c.size.ensures c.args.post.now c.args.count c.args.place _ c.message-at-message.ensures
+pub check_report-requires : goal.check_report-requires
+check_report-requires g c = sender_lawful _ (g.Q.QuorumRule.lawful c.args.rule.now) _ c.size.ensures c.args.post.now c.args.count c.args.place _ c.message_at-message.ensures
 
 pub bounds-row-sender-in-4 : goal.bounds-row-sender-in-4
-bounds-row-sender-in-4 g c = sender_lawful _ (g.Q.QuorumRule.lawful c.args.rule.now) _ c.size.ensures c.args.post.now c.args.count c.args.place _ c.message-at-message.ensures
+bounds-row-sender-in-4 g c = sender_lawful _ (g.Q.QuorumRule.lawful c.args.rule.now) _ c.size.ensures c.args.post.now c.args.count c.args.place _ c.message_at-message.ensures
 
-pub bounds-row-sender-in-default : goal.bounds-row-sender-in-default
-bounds-row-sender-in-default g c = sender_lawful _ (g.Q.QuorumRule.lawful c.args.rule.now) _ c.size.ensures c.args.post.now c.args.count c.args.place _ c.message-at-message.ensures
+pub bounds-row-sender-in_default : goal.bounds-row-sender-in_default
+bounds-row-sender-in_default g c = sender_lawful _ (g.Q.QuorumRule.lawful c.args.rule.now) _ c.size.ensures c.args.post.now c.args.count c.args.place _ c.message_at-message.ensures
 
 pub returns-in-1 : goal.returns-in-1
 unfolding taking_fault
@@ -31,9 +31,9 @@ pub returns-in-4 : goal.returns-in-4
 unfolding taking_fault
 returns-in-4 g c = search rules
 
-pub returns-in-default : goal.returns-in-default
+pub returns-in_default : goal.returns-in_default
 unfolding taking_fault
-returns-in-default g c = search rules
+returns-in_default g c = search rules
 
 pub returns-in-0 : goal.returns-in-0
 returns-in-0 g c = search rules

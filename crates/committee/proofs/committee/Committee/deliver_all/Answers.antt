@@ -8,4 +8,4 @@ unfolding given_all
 loop-slot-init g c = (refl, omega arith, refl, refl)
 
 pub loop-slot-preserved : goal.loop-slot-preserved
-loop-slot-preserved g c = (given_more _ c.args.process _ c.loop-slot.slot _ _ c.deliver-one-swept.ensures.given c.loop-slot.invariant.0, omega arith, c.deliver-one-swept.ensures.few.1.0 ∙ c.loop-slot.invariant.2, c.deliver-one-swept.ensures.few.1.1 ∙ c.loop-slot.invariant.3)
+loop-slot-preserved g c = (given_more _ c.args.process _ c.loop-slot.slot _ _ c.deliver_one-swept.ensures.given c.loop-slot.invariant.0, omega arith, c.deliver_one-swept.ensures.few.1.0 ∙ c.loop-slot.invariant.2, c.deliver_one-swept.ensures.few.1.1 ∙ c.loop-slot.invariant.3)

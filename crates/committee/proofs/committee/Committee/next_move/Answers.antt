@@ -4,39 +4,39 @@ use Rattle.committee.specs.Committees.{over, lent}
 use Rattle.committee.proofs.Readied.{by_fault, by_idle, by_full, by_plan}
 use Rattle.committee.proofs.committee.Committee.next_move.Goals as goal
 
-pub returns-in-err-check-lent : goal.returns-in-err-check-lent
-returns-in-err-check-lent g c =
+pub returns-in_err-check_lent : goal.returns-in_err-check_lent
+returns-in_err-check_lent g c =
     let S = over (g.Q.QuorumRule.meaning c.args.self.now.rule) (g.V.ValidityRule.valid c.args.self.now.validity) c.args.self.now.books c.args.self.now.foreign.bits in
     let s = lent c.args.self.now.books c.args.table.now c.args.post.now in
-    by_fault S s c.args.process _ _ c.from-residual.ensures.1 (rw (some_from_err _ _ _ c.in-err-check-lent.ensures))
+    by_fault S s c.args.process _ _ c.from_residual.ensures.1 (rw (some_from_err _ _ _ c.in_err-check_lent.ensures))
 
-pub returns-in-err-check-run : goal.returns-in-err-check-run
-returns-in-err-check-run g c =
+pub returns-in_err-check_run : goal.returns-in_err-check_run
+returns-in_err-check_run g c =
     let S = over (g.Q.QuorumRule.meaning c.args.self.now.rule) (g.V.ValidityRule.valid c.args.self.now.validity) c.args.self.now.books c.args.self.now.foreign.bits in
     let s = lent c.args.self.now.books c.args.table.now c.args.post.now in
-    let n = none_from_ok _ _ _ c.in-ok-check-lent.ensures in
-    by_fault S s c.args.process _ _ c.from-residual-in-err-check-run.ensures.1 (rw (n, some_from_err _ _ _ c.in-err-check-run.ensures))
+    let n = none_from_ok _ _ _ c.in_ok-check_lent.ensures in
+    by_fault S s c.args.process _ _ c.from_residual-in_err-check_run.ensures.1 (rw (n, some_from_err _ _ _ c.in_err-check_run.ensures))
 
-pub returns-in-default : goal.returns-in-default
-returns-in-default g c =
+pub returns-in_default : goal.returns-in_default
+returns-in_default g c =
     let S = over (g.Q.QuorumRule.meaning c.args.self.now.rule) (g.V.ValidityRule.valid c.args.self.now.validity) c.args.self.now.books c.args.self.now.foreign.bits in
     let s = lent c.args.self.now.books c.args.table.now c.args.post.now in
-    let n = none_from_ok _ _ _ c.in-ok-check-lent.ensures in
-    let m = none_from_ok _ _ _ c.in-ok-check-run.ensures in
-    by_idle S s c.args.process n m _ c.plan.ensures c.in-default.is
+    let n = none_from_ok _ _ _ c.in_ok-check_lent.ensures in
+    let m = none_from_ok _ _ _ c.in_ok-check_run.ensures in
+    by_idle S s c.args.process n m _ c.plan.ensures c.in_default.is
 
-pub returns-in-err-check-sending : goal.returns-in-err-check-sending
-returns-in-err-check-sending g c =
+pub returns-in_err-check_sending : goal.returns-in_err-check_sending
+returns-in_err-check_sending g c =
     let S = over (g.Q.QuorumRule.meaning c.args.self.now.rule) (g.V.ValidityRule.valid c.args.self.now.validity) c.args.self.now.books c.args.self.now.foreign.bits in
     let s = lent c.args.self.now.books c.args.table.now c.args.post.now in
-    let n = none_from_ok _ _ _ c.in-ok-check-lent.ensures in
-    let m = none_from_ok _ _ _ c.in-ok-check-run.ensures in
-    by_full S s c.args.process n m _ c.plan.ensures c.in-Some.plan c.in-Some.is _ c.message-of-message.ensures _ c.is-some.ensures _ _ c.from-residual-in-err-check-sending.ensures.1 (some_from_err _ _ _ c.in-err-check-sending.ensures)
+    let n = none_from_ok _ _ _ c.in_ok-check_lent.ensures in
+    let m = none_from_ok _ _ _ c.in_ok-check_run.ensures in
+    by_full S s c.args.process n m _ c.plan.ensures c.in-Some.plan c.in-Some.is _ c.message_of-message.ensures _ c.is_some.ensures _ _ c.from_residual-in_err-check_sending.ensures.1 (some_from_err _ _ _ c.in_err-check_sending.ensures)
 
 pub returns : goal.returns
 returns g c =
     let S = over (g.Q.QuorumRule.meaning c.args.self.now.rule) (g.V.ValidityRule.valid c.args.self.now.validity) c.args.self.now.books c.args.self.now.foreign.bits in
     let s = lent c.args.self.now.books c.args.table.now c.args.post.now in
-    let n = none_from_ok _ _ _ c.in-ok-check-lent.ensures in
-    let m = none_from_ok _ _ _ c.in-ok-check-run.ensures in
-    by_plan S s c.args.process n m _ c.plan.ensures c.in-Some.plan c.in-Some.is _ c.message-of-message.ensures _ c.is-some.ensures (none_from_ok _ _ _ c.in-ok-check-sending.ensures)
+    let n = none_from_ok _ _ _ c.in_ok-check_lent.ensures in
+    let m = none_from_ok _ _ _ c.in_ok-check_run.ensures in
+    by_plan S s c.args.process n m _ c.plan.ensures c.in-Some.plan c.in-Some.is _ c.message_of-message.ensures _ c.is_some.ensures (none_from_ok _ _ _ c.in_ok-check_sending.ensures)

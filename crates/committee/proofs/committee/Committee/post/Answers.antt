@@ -6,19 +6,19 @@ use Rattle.committee.specs.declared.books.Books.{Books}
 use Rattle.committee.proofs.Refused.{refuses, post_sends}
 use Rattle.committee.proofs.committee.Committee.post.Goals as goal
 
-pub returns-in-err-check-posting : goal.returns-in-err-check-posting
+pub returns-in_err-check_posting : goal.returns-in_err-check_posting
 unfolding post
-returns-in-err-check-posting g c =
-    let s = some_from_err _ _ _ c.in-err-check-posting.ensures in
-    record { answer = refuses _ _ _ _ _ _ c.from-residual.ensures.1 s; post = rw s; books = rw s; same = (refl, (refl, refl)) }
+returns-in_err-check_posting g c =
+    let s = some_from_err _ _ _ c.in_err-check_posting.ensures in
+    record { answer = refuses _ _ _ _ _ _ c.from_residual.ensures.1 s; post = rw s; books = rw s; same = (refl, (refl, refl)) }
 
 pub append-self-requires : goal.append-self-requires
 append-self-requires g c =
-    let fit = post_sends (over (g.Q.QuorumRule.meaning c.args.self.now.rule) (g.V.ValidityRule.valid c.args.self.now.validity) c.args.self.now.books c.args.self.now.foreign.bits) (lent c.args.self.now.books c.args.table.now c.args.post.now) c.args.process c.args.posting.now (none_from_ok _ _ _ c.in-ok-check-posting.ensures) in
+    let fit = post_sends (over (g.Q.QuorumRule.meaning c.args.self.now.rule) (g.V.ValidityRule.valid c.args.self.now.validity) c.args.self.now.books c.args.self.now.foreign.bits) (lent c.args.self.now.books c.args.table.now c.args.post.now) c.args.process c.args.posting.now (none_from_ok _ _ _ c.in_ok-check_posting.ensures) in
     record { room = fit.room; span = fit.span }
 
 pub returns : goal.returns
 unfolding post
 returns g c =
-    let s = none_from_ok _ _ _ c.in-ok-check-posting.ensures in
+    let s = none_from_ok _ _ _ c.in_ok-check_posting.ensures in
     record { answer = rw s (ap (λ (b : Books). Ok b.count) c.append-self.ensures.books); post = rw s (rw (c.append-self.ensures.post, c.from.ensures)); books = rw s c.append-self.ensures.books; same = (refl, (refl, refl)) }

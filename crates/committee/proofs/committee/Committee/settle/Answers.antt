@@ -34,7 +34,7 @@ returns-in-Err g c =
     let same = over_is _ _ _ _ c.loop-made.self.books c.args.self.now.books _ _ (ap g.Q.QuorumRule.meaning inv.1) (ap g.V.ValidityRule.valid inv.2) inv.4 (ap (λ (f : ProcessSet). f.bits) inv.3) in
     let d = c.in-Err.ensures in
     record {
-      settled = settle_stops S c.args.process c.loop-made.made w start inv.0 _ same c.loop-made-test.true _ _ _ d.answer (comes_to c.loop-made.self.books _ _ _ _ d.books d.table d.post) c.count-full.ensures;
+      settled = settle_stops S c.args.process c.loop-made.made w start inv.0 _ same c.loop-made-test.true _ _ _ d.answer (comes_to c.loop-made.self.books _ _ _ _ d.books d.table d.post) c.count_full.ensures;
       few = (omega arith, (omega arith, grind (arith, nat_tests)));
       span = ap (λ (b : Books). b.span) d.books ∙ inv.4;
       same = (d.same.0 ∙ inv.1, (d.same.1.0 ∙ inv.2, d.same.1.1 ∙ inv.3));

@@ -10,21 +10,21 @@ use Rattle.committee.proofs.Settled.{over_is}
 use Rattle.committee.proofs.Rounds.{turns_more, swept_all}
 use Rattle.committee.proofs.committee.Committee.sweep.Goals as goal
 
-pub returns-in-err-check-lent : goal.returns-in-err-check-lent
+pub returns-in_err-check_lent : goal.returns-in_err-check_lent
 unfolding sweep
-returns-in-err-check-lent g c =
-    let f = some_from_err _ _ _ c.in-err-check-lent.ensures in
-    record { answer = refuses _ _ _ _ _ _ c.from-residual.ensures.1 f; table = rw f; post = rw f; books = rw f; same = (refl, (refl, refl)) }
+returns-in_err-check_lent g c =
+    let f = some_from_err _ _ _ c.in_err-check_lent.ensures in
+    record { answer = refuses _ _ _ _ _ _ c.from_residual.ensures.1 f; table = rw f; post = rw f; books = rw f; same = (refl, (refl, refl)) }
 
 pub loop-process-init : goal.loop-process-init
 unfolding turns
 loop-process-init g c = (refl, refl, refl, refl, refl, omega arith, omega arith, omega arith)
 
-pub take-turn-swept-requires : goal.take-turn-swept-requires
-take-turn-swept-requires g c =
+pub take_turn-swept-requires : goal.take_turn-swept-requires
+take_turn-swept-requires g c =
     let S = over (g.Q.QuorumRule.meaning c.args.self.now.rule) (g.V.ValidityRule.valid c.args.self.now.validity) c.args.self.now.books c.args.self.now.foreign.bits in
     let s = lent c.args.self.now.books c.args.table.now c.args.post.now in
-    let none = none_from_ok _ _ _ c.in-ok-check-lent.ensures in
+    let none = none_from_ok _ _ _ c.in_ok-check_lent.ensures in
     let tall = ((lent_is S s).0 none).table in
     let few = (g.Q.QuorumRule.lawful c.args.self.now.rule).few in
     let size = c.size-process-end.ensures in
@@ -35,7 +35,7 @@ loop-process-preserved g c =
     let S = over (g.Q.QuorumRule.meaning c.args.self.now.rule) (g.V.ValidityRule.valid c.args.self.now.validity) c.args.self.now.books c.args.self.now.foreign.bits in
     let s = lent c.args.self.now.books c.args.table.now c.args.post.now in
     let inv = c.loop-process.invariant in
-    let d = c.take-turn-swept.ensures in
+    let d = c.take_turn-swept.ensures in
     let same = over_is _ _ _ _ c.loop-process.self.books c.args.self.now.books _ _ (ap g.Q.QuorumRule.meaning inv.1) (ap g.V.ValidityRule.valid inv.2) inv.4 (ap (λ (f : ProcessSet). f.bits) inv.3) in (
       turns_more S _ same s.count (begun s) c.loop-process.process _ _ d.turn inv.0,
       d.same.0 ∙ inv.1,
@@ -51,7 +51,7 @@ pub returns : goal.returns
 returns g c =
     let S = over (g.Q.QuorumRule.meaning c.args.self.now.rule) (g.V.ValidityRule.valid c.args.self.now.validity) c.args.self.now.books c.args.self.now.foreign.bits in
     let s = lent c.args.self.now.books c.args.table.now c.args.post.now in
-    let none = none_from_ok _ _ _ c.in-ok-check-lent.ensures in
+    let none = none_from_ok _ _ _ c.in_ok-check_lent.ensures in
     let inv = c.loop-process.invariant in
     let at-span : ℕ → Books = λ n. record { count = c.loop-process.self.books.count; span = n } in
     let e = swept_all S s none c.loop-process.process (omega arith) (lent c.loop-process.self.books c.loop-process.table c.loop-process.post) c.loop-process.swept inv.0 in

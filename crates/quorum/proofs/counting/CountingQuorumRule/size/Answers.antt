@@ -3,4 +3,4 @@ use Rattle.quorum.proofs.counting.CountingQuorumRule.size.Goals as goal
 
 pub returns : goal.returns
 unfolding counting
-returns c = c.size-for.ensures
+returns c = c.size_for.ensures

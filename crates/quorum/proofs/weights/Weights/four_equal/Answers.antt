@@ -7,5 +7,5 @@ use Rattle.quorum.proofs.weights.Weights.four_equal.Goals as goal
 pub of-requires : goal.of-requires
 unfolding weigh weights_fault
 of-requires c =
-    let l = load c.four-ones.result.now (ap weights_fault c.four-ones.ensures) in
-    record { some = l.some; few = l.few; light = l.light; whole = sym (ap total_of c.four-ones.ensures); weighty = l.weighty }
+    let l = load c.four_ones.result.now (ap weights_fault c.four_ones.ensures) in
+    record { some = l.some; few = l.few; light = l.light; whole = sym (ap total_of c.four_ones.ensures); weighty = l.weighty }

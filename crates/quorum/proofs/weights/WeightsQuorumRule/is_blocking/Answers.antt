@@ -9,5 +9,5 @@ pub returns : goal.returns
 returns c =
     let me = c.args.self.now in
     let xs = me.list.now in
-    Decides-at _ _ c.is-a-third.ensures
+    Decides-at _ _ c.is_a_third.ensures
     (weights_blocking xs c.args.set.bits c.weigh.result me.total c.weigh.ensures me.whole (weighing_lawful (length xs) (weight_at xs) me.some me.few me.weighty))

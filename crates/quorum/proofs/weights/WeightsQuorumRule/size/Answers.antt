@@ -3,4 +3,4 @@ use Rattle.quorum.proofs.weights.WeightsQuorumRule.size.Goals as goal
 
 pub returns : goal.returns
 unfolding weighing
-returns c = c.size-of-list.ensures
+returns c = c.size_of_list.ensures

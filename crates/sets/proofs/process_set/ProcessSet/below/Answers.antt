@@ -3,7 +3,7 @@ use Rattle.sets.proofs.Members.{sift_has, below_whole}
 use Rattle.sets.proofs.process_set.ProcessSet.below.Goals as goal
 
 pub returns-then-n-lt32 : goal.returns-then-n-lt32
-returns-then-n-lt32 c = c.low-bits.ensures ∙ sym (sift_has c.args.n c.args.self.bits)
+returns-then-n-lt32 c = c.low_bits.ensures ∙ sym (sift_has c.args.n c.args.self.bits)
 
 pub returns-else-n-lt32 : goal.returns-else-n-lt32
 returns-else-n-lt32 c =

@@ -6,7 +6,7 @@ use Rattle.sets.proofs.process_set.ProcessSet.contains.Goals as goal
 
 pub returns-then-process-lt32 : goal.returns-then-process-lt32
 unfolding has
-returns-then-process-lt32 c = c.is-set.ensures
+returns-then-process-lt32 c = c.is_set.ensures
 
 pub returns-else-process-lt32 : goal.returns-else-process-lt32
 returns-else-process-lt32 c =
