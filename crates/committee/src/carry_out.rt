@@ -19,10 +19,10 @@ impl<Q: QuorumRule, V: ValidityRule> Committee<Q, V> {
         post: &mut [Message],
         call: Call,
     ) -> Result<Answer, Refusal>
-        ensures answer { result ≡ (carry_out (over (meaning self.old.rule) (valid self.old.validity) self.old.books self.old.foreign.bits) (lent self.old.books table.old post.old) call).answer }
-        ensures table { table.new ≡ (carry_out (over (meaning self.old.rule) (valid self.old.validity) self.old.books self.old.foreign.bits) (lent self.old.books table.old post.old) call).state.table }
-        ensures post { post.new ≡ (carry_out (over (meaning self.old.rule) (valid self.old.validity) self.old.books self.old.foreign.bits) (lent self.old.books table.old post.old) call).state.post }
-        ensures books { self.new.books ≡ counted self.old.books (carry_out (over (meaning self.old.rule) (valid self.old.validity) self.old.books self.old.foreign.bits) (lent self.old.books table.old post.old) call).state }
+        ensures answer { result ≡ (carry_out (over (Q.meaning self.old.rule) (V.valid self.old.validity) self.old.books self.old.foreign.bits) (lent self.old.books table.old post.old) call).answer }
+        ensures table { table.new ≡ (carry_out (over (Q.meaning self.old.rule) (V.valid self.old.validity) self.old.books self.old.foreign.bits) (lent self.old.books table.old post.old) call).state.table }
+        ensures post { post.new ≡ (carry_out (over (Q.meaning self.old.rule) (V.valid self.old.validity) self.old.books self.old.foreign.bits) (lent self.old.books table.old post.old) call).state.post }
+        ensures books { self.new.books ≡ counted self.old.books (carry_out (over (Q.meaning self.old.rule) (V.valid self.old.validity) self.old.books self.old.foreign.bits) (lent self.old.books table.old post.old) call).state }
         ensures same { (self.new.rule ≡ self.old.rule) × ((self.new.validity ≡ self.old.validity) × (self.new.foreign ≡ self.old.foreign)) }
     {
         match call {

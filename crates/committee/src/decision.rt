@@ -18,7 +18,7 @@ impl<Q: QuorumRule, V: ValidityRule> Committee<Q, V> {
         post: &[Message],
         process: u8,
     ) -> Result<Option<Decision>, Refusal>
-        ensures answer { result ≡ (decision (over (meaning self.now.rule) (valid self.now.validity) self.now.books self.now.foreign.bits) (lent self.now.books table.now post.now) process).answer }
+        ensures answer { result ≡ (decision (over (Q.meaning self.now.rule) (V.valid self.now.validity) self.now.books self.now.foreign.bits) (lent self.now.books table.now post.now) process).answer }
     {
         self.check_lent(table, post)?;
         self.check_run(process)?;

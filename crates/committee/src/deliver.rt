@@ -22,8 +22,8 @@ impl<Q: QuorumRule, V: ValidityRule> Committee<Q, V> {
         process: u8,
         place: u16,
     ) -> Result<(), Refusal>
-        ensures answer { result ≡ (deliver (over (meaning self.now.rule) (valid self.now.validity) self.now.books self.now.foreign.bits) (lent self.now.books table.old post.now) process place).answer }
-        ensures table { table.new ≡ (deliver (over (meaning self.now.rule) (valid self.now.validity) self.now.books self.now.foreign.bits) (lent self.now.books table.old post.now) process place).state.table }
+        ensures answer { result ≡ (deliver (over (Q.meaning self.now.rule) (V.valid self.now.validity) self.now.books self.now.foreign.bits) (lent self.now.books table.old post.now) process place).answer }
+        ensures table { table.new ≡ (deliver (over (Q.meaning self.now.rule) (V.valid self.now.validity) self.now.books self.now.foreign.bits) (lent self.now.books table.old post.now) process place).state.table }
     {
         self.check_lent(table, post)?;
         self.check_run(process)?;
@@ -38,8 +38,8 @@ impl<Q: QuorumRule, V: ValidityRule> Committee<Q, V> {
         row: &mut Row,
         place: u16,
     ) -> Result<(), Refusal>
-        ensures answer { result ≡ answered (giving_fault (meaning self.now.rule) (valid self.now.validity) (posted (meaning self.now.rule).size post.now self.now.books.count) process row.old place) tt }
-        ensures after { row.new ≡ kept (giving_fault (meaning self.now.rule) (valid self.now.validity) (posted (meaning self.now.rule).size post.now self.now.books.count) process row.old place) row.old (taken (posted (meaning self.now.rule).size post.now self.now.books.count) row.old place) }
+        ensures answer { result ≡ answered (giving_fault (Q.meaning self.now.rule) (V.valid self.now.validity) (posted (Q.meaning self.now.rule).size post.now self.now.books.count) process row.old place) tt }
+        ensures after { row.new ≡ kept (giving_fault (Q.meaning self.now.rule) (V.valid self.now.validity) (posted (Q.meaning self.now.rule).size post.now self.now.books.count) process row.old place) row.old (taken (posted (Q.meaning self.now.rule).size post.now self.now.books.count) row.old place) }
     {
         let count = self.books.count;
         give(&self.rule, &self.validity, post, count, process, row, place)

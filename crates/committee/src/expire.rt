@@ -22,9 +22,9 @@ impl<Q: QuorumRule, V: ValidityRule> Committee<Q, V> {
         post: &mut [Message],
         process: u8,
     ) -> Result<u16, Refusal>
-        ensures answer { result ≡ (expire (over (meaning self.old.rule) (valid self.old.validity) self.old.books self.old.foreign.bits) (lent self.old.books table.now post.old) process).answer }
-        ensures post { post.new ≡ (expire (over (meaning self.old.rule) (valid self.old.validity) self.old.books self.old.foreign.bits) (lent self.old.books table.now post.old) process).state.post }
-        ensures books { self.new.books ≡ counted self.old.books (expire (over (meaning self.old.rule) (valid self.old.validity) self.old.books self.old.foreign.bits) (lent self.old.books table.now post.old) process).state }
+        ensures answer { result ≡ (expire (over (Q.meaning self.old.rule) (V.valid self.old.validity) self.old.books self.old.foreign.bits) (lent self.old.books table.now post.old) process).answer }
+        ensures post { post.new ≡ (expire (over (Q.meaning self.old.rule) (V.valid self.old.validity) self.old.books self.old.foreign.bits) (lent self.old.books table.now post.old) process).state.post }
+        ensures books { self.new.books ≡ counted self.old.books (expire (over (Q.meaning self.old.rule) (V.valid self.old.validity) self.old.books self.old.foreign.bits) (lent self.old.books table.now post.old) process).state }
         ensures same { (self.new.rule ≡ self.old.rule) × ((self.new.validity ≡ self.old.validity) × (self.new.foreign ≡ self.old.foreign)) }
     {
         self.check_expiry(table, post, process)?;
@@ -36,7 +36,7 @@ impl<Q: QuorumRule, V: ValidityRule> Committee<Q, V> {
     }
 
     fn check_expiry(&self, table: &[Row], post: &[Message], process: u8) -> Result<(), Refusal>
-        ensures { result ≡ answered (expire_fault (over (meaning self.now.rule) (valid self.now.validity) self.now.books self.now.foreign.bits) (lent self.now.books table.now post.now) process) tt }
+        ensures { result ≡ answered (expire_fault (over (Q.meaning self.now.rule) (V.valid self.now.validity) self.now.books self.now.foreign.bits) (lent self.now.books table.now post.now) process) tt }
     {
         self.check_lent(table, post)?;
         self.check_run(process)?;

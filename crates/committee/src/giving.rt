@@ -24,7 +24,7 @@ impl<Q: QuorumRule, V: ValidityRule> Committee<Q, V> {
     ) -> Swept
         requires within { process < length table.old }
         requires few { swept.accepted + posted < 4294967296 }
-        ensures given { sweeping (lent self.now.books table.new post.now) result ≡ given_all (over (meaning self.now.rule) (valid self.now.validity) self.now.books self.now.foreign.bits) process (sweeping (lent self.now.books table.old post.now) swept) posted }
+        ensures given { sweeping (lent self.now.books table.new post.now) result ≡ given_all (over (Q.meaning self.now.rule) (V.valid self.now.validity) self.now.books self.now.foreign.bits) process (sweeping (lent self.now.books table.old post.now) swept) posted }
         ensures few { (result.accepted ≤ swept.accepted + posted) × ((result.moves ≡ swept.moves) × (result.stopped ≡ swept.stopped)) }
     {
         let mut swept = swept;
@@ -46,7 +46,7 @@ impl<Q: QuorumRule, V: ValidityRule> Committee<Q, V> {
         requires within { process < length table.old }
         requires last { slot < 65535 }
         requires few { swept.accepted + 1 < 4294967296 }
-        ensures given { sweeping (lent self.now.books table.new post.now) result ≡ given (over (meaning self.now.rule) (valid self.now.validity) self.now.books self.now.foreign.bits) process (slot + 1) (sweeping (lent self.now.books table.old post.now) swept) }
+        ensures given { sweeping (lent self.now.books table.new post.now) result ≡ given (over (Q.meaning self.now.rule) (V.valid self.now.validity) self.now.books self.now.foreign.bits) process (slot + 1) (sweeping (lent self.now.books table.old post.now) swept) }
         ensures few { (result.accepted ≤ swept.accepted + 1) × ((result.moves ≡ swept.moves) × (result.stopped ≡ swept.stopped)) }
     {
         if !is_due(post, slot, table[process as usize].ballot.view) {

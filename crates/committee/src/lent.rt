@@ -17,7 +17,7 @@ use quorum::validity::ValidityRule;
 impl<Q: QuorumRule, V: ValidityRule> Committee<Q, V> {
     // The table is long enough, and the post as long as at the opening.
     pub(crate) fn check_lent(&self, table: &[Row], post: &[Message]) -> Result<(), Refusal>
-        ensures { result ≡ answered (lent_fault (over (meaning self.now.rule) (valid self.now.validity) self.now.books self.now.foreign.bits) (lent self.now.books table.now post.now)) tt }
+        ensures { result ≡ answered (lent_fault (over (Q.meaning self.now.rule) (V.valid self.now.validity) self.now.books self.now.foreign.bits) (lent self.now.books table.now post.now)) tt }
     {
         check(
             table.len() >= self.rule.size() as usize,
@@ -28,7 +28,7 @@ impl<Q: QuorumRule, V: ValidityRule> Committee<Q, V> {
 
     // There is such a process, and it is run.
     pub(crate) fn check_run(&self, process: u8) -> Result<(), Refusal>
-        ensures { result ≡ answered (run_fault (over (meaning self.now.rule) (valid self.now.validity) self.now.books self.now.foreign.bits) process) tt }
+        ensures { result ≡ answered (run_fault (over (Q.meaning self.now.rule) (V.valid self.now.validity) self.now.books self.now.foreign.bits) process) tt }
     {
         check(process < self.rule.size(), Refusal::NoProcess)?;
         check(!self.foreign.contains(process), Refusal::Foreign)
@@ -36,7 +36,7 @@ impl<Q: QuorumRule, V: ValidityRule> Committee<Q, V> {
 
     // There is such a process, and it is foreign.
     pub(crate) fn check_foreign(&self, process: u8) -> Result<(), Refusal>
-        ensures { result ≡ answered (foreign_fault (over (meaning self.now.rule) (valid self.now.validity) self.now.books self.now.foreign.bits) process) tt }
+        ensures { result ≡ answered (foreign_fault (over (Q.meaning self.now.rule) (V.valid self.now.validity) self.now.books self.now.foreign.bits) process) tt }
     {
         check(process < self.rule.size(), Refusal::NoProcess)?;
         check(self.foreign.contains(process), Refusal::Run)

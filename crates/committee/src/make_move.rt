@@ -25,10 +25,10 @@ impl<Q: QuorumRule, V: ValidityRule> Committee<Q, V> {
         post: &mut [Message],
         process: u8,
     ) -> Result<(Move, u16), Refusal>
-        ensures answer { result ≡ (moved (over (meaning self.old.rule) (valid self.old.validity) self.old.books self.old.foreign.bits) (lent self.old.books table.old post.old) process).answer }
-        ensures table { table.new ≡ (moved (over (meaning self.old.rule) (valid self.old.validity) self.old.books self.old.foreign.bits) (lent self.old.books table.old post.old) process).state.table }
-        ensures post { post.new ≡ (moved (over (meaning self.old.rule) (valid self.old.validity) self.old.books self.old.foreign.bits) (lent self.old.books table.old post.old) process).state.post }
-        ensures books { self.new.books ≡ counted self.old.books (moved (over (meaning self.old.rule) (valid self.old.validity) self.old.books self.old.foreign.bits) (lent self.old.books table.old post.old) process).state }
+        ensures answer { result ≡ (moved (over (Q.meaning self.old.rule) (V.valid self.old.validity) self.old.books self.old.foreign.bits) (lent self.old.books table.old post.old) process).answer }
+        ensures table { table.new ≡ (moved (over (Q.meaning self.old.rule) (V.valid self.old.validity) self.old.books self.old.foreign.bits) (lent self.old.books table.old post.old) process).state.table }
+        ensures post { post.new ≡ (moved (over (Q.meaning self.old.rule) (V.valid self.old.validity) self.old.books self.old.foreign.bits) (lent self.old.books table.old post.old) process).state.post }
+        ensures books { self.new.books ≡ counted self.old.books (moved (over (Q.meaning self.old.rule) (V.valid self.old.validity) self.old.books self.old.foreign.bits) (lent self.old.books table.old post.old) process).state }
         ensures same { (self.new.rule ≡ self.old.rule) × ((self.new.validity ≡ self.old.validity) × (self.new.foreign ≡ self.old.foreign)) }
     {
         let (plan, message) = self.next_move(table, post, process)?;
@@ -53,7 +53,7 @@ impl<Q: QuorumRule, V: ValidityRule> Committee<Q, V> {
         post: &[Message],
         process: u8,
     ) -> Result<(Plan, Option<Message>), Refusal>
-        ensures { result ≡ ready (over (meaning self.now.rule) (valid self.now.validity) self.now.books self.now.foreign.bits) (lent self.now.books table.now post.now) process }
+        ensures { result ≡ ready (over (Q.meaning self.now.rule) (V.valid self.now.validity) self.now.books self.now.foreign.bits) (lent self.now.books table.now post.now) process }
     {
         self.check_lent(table, post)?;
         self.check_run(process)?;
@@ -68,7 +68,7 @@ impl<Q: QuorumRule, V: ValidityRule> Committee<Q, V> {
 
     // The first possible move of `process` with this row.
     fn plan(&self, post: &[Message], process: u8, row: &Row) -> Option<Plan>
-        ensures { result ≡ plan (meaning self.now.rule) (posted (meaning self.now.rule).size post.now self.now.books.count) process row.now }
+        ensures { result ≡ plan (Q.meaning self.now.rule) (posted (Q.meaning self.now.rule).size post.now self.now.books.count) process row.now }
     {
         plan_move(&self.rule, post, self.books.count, process, row)
     }

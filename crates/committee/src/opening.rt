@@ -26,12 +26,12 @@ impl<Q: QuorumRule, V: ValidityRule> Committee<Q, V> {
         foreign: ProcessSet,
         owns: &[u64],
     ) -> Result<(), Refusal>
-        ensures answer { result ≡ (opening (meaning self.old.rule) (valid self.old.validity) (whole self.old.books self.old.foreign.bits) table.old post.now foreign.bits owns.now).answer }
-        ensures table { table.new ≡ (opening (meaning self.old.rule) (valid self.old.validity) (whole self.old.books self.old.foreign.bits) table.old post.now foreign.bits owns.now).table }
-        ensures books { self.new.books ≡ counts (opening (meaning self.old.rule) (valid self.old.validity) (whole self.old.books self.old.foreign.bits) table.old post.now foreign.bits owns.now).books }
-        ensures foreign { self.new.foreign.bits ≡ (opening (meaning self.old.rule) (valid self.old.validity) (whole self.old.books self.old.foreign.bits) table.old post.now foreign.bits owns.now).books.foreign }
+        ensures answer { result ≡ (opening (Q.meaning self.old.rule) (V.valid self.old.validity) (whole self.old.books self.old.foreign.bits) table.old post.now foreign.bits owns.now).answer }
+        ensures table { table.new ≡ (opening (Q.meaning self.old.rule) (V.valid self.old.validity) (whole self.old.books self.old.foreign.bits) table.old post.now foreign.bits owns.now).table }
+        ensures books { self.new.books ≡ counts (opening (Q.meaning self.old.rule) (V.valid self.old.validity) (whole self.old.books self.old.foreign.bits) table.old post.now foreign.bits owns.now).books }
+        ensures foreign { self.new.foreign.bits ≡ (opening (Q.meaning self.old.rule) (V.valid self.old.validity) (whole self.old.books self.old.foreign.bits) table.old post.now foreign.bits owns.now).books.foreign }
         ensures rules { (self.new.rule ≡ self.old.rule) × (self.new.validity ≡ self.old.validity) }
-        ensures promise { result ≡ Ok tt → (meaning self.new.rule).tolerated self.new.foreign.bits ≡ true → Promise (over (meaning self.new.rule) (valid self.new.validity) self.new.books self.new.foreign.bits) (lent self.new.books table.new post.now) }
+        ensures promise { result ≡ Ok tt → (Q.meaning self.new.rule).tolerated self.new.foreign.bits ≡ true → Promise (over (Q.meaning self.new.rule) (V.valid self.new.validity) self.new.books self.new.foreign.bits) (lent self.new.books table.new post.now) }
     {
         check_opening(&self.rule, &self.validity, table, post, foreign, owns)?;
         let size = self.rule.size();
@@ -53,7 +53,7 @@ fn check_opening<Q: QuorumRule, V: ValidityRule>(
     foreign: ProcessSet,
     owns: &[u64],
 ) -> Result<(), Refusal>
-    ensures { result ≡ answered (open_fault (meaning rule.now) (valid validity.now) table.now post.now foreign.bits owns.now) tt }
+    ensures { result ≡ answered (open_fault (Q.meaning rule.now) (V.valid validity.now) table.now post.now foreign.bits owns.now) tt }
 {
     let size = rule.size();
     check_lengths(size, owns.len(), table.len(), post.len())?;
@@ -77,7 +77,7 @@ fn check_owns<V: ValidityRule>(
     owns: &[u64],
 ) -> Result<(), Refusal>
     requires { size ≤ length owns.now }
-    ensures { result ≡ answered (first_below (own_fault (valid validity.now) foreign.bits owns.now) size) tt }
+    ensures { result ≡ answered (first_below (own_fault (V.valid validity.now) foreign.bits owns.now) size) tt }
 {
     for slot in 0..size {
         check_own(validity, foreign, owns, slot)?;
@@ -92,7 +92,7 @@ fn check_own<V: ValidityRule>(
     slot: u8,
 ) -> Result<(), Refusal>
     requires { slot < length owns.now }
-    ensures { result ≡ answered (own_fault (valid validity.now) foreign.bits owns.now slot) tt }
+    ensures { result ≡ answered (own_fault (V.valid validity.now) foreign.bits owns.now slot) tt }
 {
     check(
         foreign.contains(slot) || validity.is_valid(owns[slot as usize]),

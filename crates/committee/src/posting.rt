@@ -22,9 +22,9 @@ impl<Q: QuorumRule, V: ValidityRule> Committee<Q, V> {
         process: u8,
         posting: &Posting,
     ) -> Result<u16, Refusal>
-        ensures answer { result ≡ (posted_by (over (meaning self.old.rule) (valid self.old.validity) self.old.books self.old.foreign.bits) (lent self.old.books table.now post.old) process posting.now).answer }
-        ensures post { post.new ≡ (posted_by (over (meaning self.old.rule) (valid self.old.validity) self.old.books self.old.foreign.bits) (lent self.old.books table.now post.old) process posting.now).state.post }
-        ensures books { self.new.books ≡ counted self.old.books (posted_by (over (meaning self.old.rule) (valid self.old.validity) self.old.books self.old.foreign.bits) (lent self.old.books table.now post.old) process posting.now).state }
+        ensures answer { result ≡ (posted_by (over (Q.meaning self.old.rule) (V.valid self.old.validity) self.old.books self.old.foreign.bits) (lent self.old.books table.now post.old) process posting.now).answer }
+        ensures post { post.new ≡ (posted_by (over (Q.meaning self.old.rule) (V.valid self.old.validity) self.old.books self.old.foreign.bits) (lent self.old.books table.now post.old) process posting.now).state.post }
+        ensures books { self.new.books ≡ counted self.old.books (posted_by (over (Q.meaning self.old.rule) (V.valid self.old.validity) self.old.books self.old.foreign.bits) (lent self.old.books table.now post.old) process posting.now).state }
         ensures same { (self.new.rule ≡ self.old.rule) × ((self.new.validity ≡ self.old.validity) × (self.new.foreign ≡ self.old.foreign)) }
     {
         self.check_posting(table, post, process, posting)?;
@@ -39,7 +39,7 @@ impl<Q: QuorumRule, V: ValidityRule> Committee<Q, V> {
         process: u8,
         posting: &Posting,
     ) -> Result<(), Refusal>
-        ensures { result ≡ answered (post_fault (over (meaning self.now.rule) (valid self.now.validity) self.now.books self.now.foreign.bits) (lent self.now.books table.now post.now) process posting.now) tt }
+        ensures { result ≡ answered (post_fault (over (Q.meaning self.now.rule) (V.valid self.now.validity) self.now.books self.now.foreign.bits) (lent self.now.books table.now post.now) process posting.now) tt }
     {
         self.check_lent(table, post)?;
         self.check_foreign(process)?;

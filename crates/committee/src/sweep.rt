@@ -18,10 +18,10 @@ const MOST_MOVES: u32 = 12;
 impl<Q: QuorumRule, V: ValidityRule> Committee<Q, V> {
     // Goes through the run processes upward. Answers how many deliveries were accepted, how many moves made, and how many processes met a full post.
     pub fn sweep(&mut self, table: &mut [Row], post: &mut [Message]) -> Result<Swept, Refusal>
-        ensures answer { result ≡ (sweep (over (meaning self.old.rule) (valid self.old.validity) self.old.books self.old.foreign.bits) (lent self.old.books table.old post.old)).answer }
-        ensures table { table.new ≡ (sweep (over (meaning self.old.rule) (valid self.old.validity) self.old.books self.old.foreign.bits) (lent self.old.books table.old post.old)).state.table }
-        ensures post { post.new ≡ (sweep (over (meaning self.old.rule) (valid self.old.validity) self.old.books self.old.foreign.bits) (lent self.old.books table.old post.old)).state.post }
-        ensures books { self.new.books ≡ counted self.old.books (sweep (over (meaning self.old.rule) (valid self.old.validity) self.old.books self.old.foreign.bits) (lent self.old.books table.old post.old)).state }
+        ensures answer { result ≡ (sweep (over (Q.meaning self.old.rule) (V.valid self.old.validity) self.old.books self.old.foreign.bits) (lent self.old.books table.old post.old)).answer }
+        ensures table { table.new ≡ (sweep (over (Q.meaning self.old.rule) (V.valid self.old.validity) self.old.books self.old.foreign.bits) (lent self.old.books table.old post.old)).state.table }
+        ensures post { post.new ≡ (sweep (over (Q.meaning self.old.rule) (V.valid self.old.validity) self.old.books self.old.foreign.bits) (lent self.old.books table.old post.old)).state.post }
+        ensures books { self.new.books ≡ counted self.old.books (sweep (over (Q.meaning self.old.rule) (V.valid self.old.validity) self.old.books self.old.foreign.bits) (lent self.old.books table.old post.old)).state }
         ensures same { (self.new.rule ≡ self.old.rule) × ((self.new.validity ≡ self.old.validity) × (self.new.foreign ≡ self.old.foreign)) }
     {
         self.check_lent(table, post)?;
@@ -48,7 +48,7 @@ impl<Q: QuorumRule, V: ValidityRule> Committee<Q, V> {
     ) -> Swept
         requires within { process < length table.old }
         requires few { (swept.accepted + posted < 4294967296) × ((swept.moves + 12 < 4294967296) × (swept.stopped + 1 < 256)) }
-        ensures turn { sweeping (lent self.new.books table.new post.new) result ≡ turn (over (meaning self.old.rule) (valid self.old.validity) self.old.books self.old.foreign.bits) posted (sweeping (lent self.old.books table.old post.old) swept) process }
+        ensures turn { sweeping (lent self.new.books table.new post.new) result ≡ turn (over (Q.meaning self.old.rule) (V.valid self.old.validity) self.old.books self.old.foreign.bits) posted (sweeping (lent self.old.books table.old post.old) swept) process }
         ensures few { (result.accepted ≤ swept.accepted + posted) × ((result.moves ≤ swept.moves + 12) × (result.stopped ≤ swept.stopped + 1)) }
         ensures span { self.new.books.span ≡ self.old.books.span }
         ensures same { (self.new.rule ≡ self.old.rule) × ((self.new.validity ≡ self.old.validity) × (self.new.foreign ≡ self.old.foreign)) }
@@ -70,7 +70,7 @@ impl<Q: QuorumRule, V: ValidityRule> Committee<Q, V> {
     ) -> Swept
         requires within { process < length table.old }
         requires few { (swept.accepted + posted < 4294967296) × ((swept.moves + 12 < 4294967296) × (swept.stopped + 1 < 256)) }
-        ensures turn { sweeping (lent self.new.books table.new post.new) result ≡ settle 12 (over (meaning self.old.rule) (valid self.old.validity) self.old.books self.old.foreign.bits) process (given_all (over (meaning self.old.rule) (valid self.old.validity) self.old.books self.old.foreign.bits) process (sweeping (lent self.old.books table.old post.old) swept) posted) }
+        ensures turn { sweeping (lent self.new.books table.new post.new) result ≡ settle 12 (over (Q.meaning self.old.rule) (V.valid self.old.validity) self.old.books self.old.foreign.bits) process (given_all (over (Q.meaning self.old.rule) (V.valid self.old.validity) self.old.books self.old.foreign.bits) process (sweeping (lent self.old.books table.old post.old) swept) posted) }
         ensures few { (result.accepted ≤ swept.accepted + posted) × ((result.moves ≤ swept.moves + 12) × (result.stopped ≤ swept.stopped + 1)) }
         ensures span { self.new.books.span ≡ self.old.books.span }
         ensures same { (self.new.rule ≡ self.old.rule) × ((self.new.validity ≡ self.old.validity) × (self.new.foreign ≡ self.old.foreign)) }
@@ -88,7 +88,7 @@ impl<Q: QuorumRule, V: ValidityRule> Committee<Q, V> {
         swept: Swept,
     ) -> Swept
         requires few { (swept.moves + 12 < 4294967296) × (swept.stopped + 1 < 256) }
-        ensures settled { sweeping (lent self.new.books table.new post.new) result ≡ settle 12 (over (meaning self.old.rule) (valid self.old.validity) self.old.books self.old.foreign.bits) process (sweeping (lent self.old.books table.old post.old) swept) }
+        ensures settled { sweeping (lent self.new.books table.new post.new) result ≡ settle 12 (over (Q.meaning self.old.rule) (V.valid self.old.validity) self.old.books self.old.foreign.bits) process (sweeping (lent self.old.books table.old post.old) swept) }
         ensures few { (result.accepted ≤ swept.accepted) × ((result.moves ≤ swept.moves + 12) × (result.stopped ≤ swept.stopped + 1)) }
         ensures span { self.new.books.span ≡ self.old.books.span }
         ensures same { (self.new.rule ≡ self.old.rule) × ((self.new.validity ≡ self.old.validity) × (self.new.foreign ≡ self.old.foreign)) }

@@ -19,7 +19,7 @@ pub fn judge_certificate<Q: QuorumRule>(
     report: &Message,
     place: u16,
 ) -> Result<(), CertificateFault>
-    ensures { result ≡ answered (certificate_fault (meaning rule.now) (posted (meaning rule.now).size post.now count) report.now.citations report.now.locked report.now.value place) tt }
+    ensures { result ≡ answered (certificate_fault (Q.meaning rule.now) (posted (Q.meaning rule.now).size post.now count) report.now.citations report.now.locked report.now.value place) tt }
 {
     check(
         rule.is_quorum(tally(&report.citations, &Held)),

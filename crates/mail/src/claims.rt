@@ -15,7 +15,7 @@ pub fn judging_stands<Q: QuorumRule, V: ValidityRule>(
     post: &[Message],
     count: u16,
 )
-    ensures { Judging (meaning rule.now) (valid validity.now) (posted (meaning rule.now).size post.now count) }
+    ensures { Judging (Q.meaning rule.now) (V.valid validity.now) (posted (Q.meaning rule.now).size post.now count) }
 {}
 
 // All worked examples.

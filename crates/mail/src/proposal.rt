@@ -23,7 +23,7 @@ pub fn judge_proposal<Q: QuorumRule, V: ValidityRule>(
     proposal: &Message,
     place: u16,
 ) -> Result<(), ProposalFault>
-    ensures { result ≡ answered (proposal_fault (meaning rule.now) (valid validity.now) (posted (meaning rule.now).size post.now count) proposal.now place) tt }
+    ensures { result ≡ answered (proposal_fault (Q.meaning rule.now) (V.valid validity.now) (posted (Q.meaning rule.now).size post.now count) proposal.now place) tt }
 {
     check_offer(rule, validity, proposal, place)?;
     let size = rule.size();
@@ -43,7 +43,7 @@ fn check_offer<Q: QuorumRule, V: ValidityRule>(
     proposal: &Message,
     place: u16,
 ) -> Result<(), ProposalFault>
-    ensures { result ≡ answered (offer_fault (meaning rule.now) (valid validity.now) proposal.now place) tt }
+    ensures { result ≡ answered (offer_fault (Q.meaning rule.now) (V.valid validity.now) proposal.now place) tt }
 {
     check(
         is_leader(rule.size(), proposal.view, proposal.sender),
@@ -69,7 +69,7 @@ fn check_citation<Q: QuorumRule>(
     slot: u8,
 ) -> Result<(), ProposalFault>
     requires { slot < 32 }
-    ensures { result ≡ answered (citation_fault (meaning rule.now) (posted (meaning rule.now).size post.now count) proposal.now place slot) tt }
+    ensures { result ≡ answered (citation_fault (Q.meaning rule.now) (posted (Q.meaning rule.now).size post.now count) proposal.now place slot) tt }
 {
     let cited = proposal.citations[slot as usize];
     if cited == 0 {

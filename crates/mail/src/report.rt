@@ -17,7 +17,7 @@ pub fn judge_report<Q: QuorumRule>(
     report: &Message,
     place: u16,
 ) -> Result<(), ReportFault>
-    ensures { result ≡ answered (report_fault (meaning rule.now) (posted (meaning rule.now).size post.now count) report.now place) tt }
+    ensures { result ≡ answered (report_fault (Q.meaning rule.now) (posted (Q.meaning rule.now).size post.now count) report.now place) tt }
 {
     if report.locked >= report.view {
         return Err(ReportFault::LockNotBelow { place });

@@ -7,12 +7,12 @@ use crate::rules::QuorumRule;
 
 // Each quorum has a member outside any tolerated set and is blocking, and members from the rule's size up are disregarded.
 pub fn quorums_stand<Q: QuorumRule>(rule: &Q)
-    ensures { Ground (meaning rule.now) }
+    ensures { Ground (Q.meaning rule.now) }
 {}
 
 // Hopeful and settled are the highest views, and settled is at most hopeful.
 pub fn views_stand<Q: QuorumRule>(rule: &Q)
-    ensures { Views (meaning rule.now) }
+    ensures { Views (Q.meaning rule.now) }
 {}
 
 // The worked examples.

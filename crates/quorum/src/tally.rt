@@ -13,7 +13,7 @@ pub trait EntryTest<E> {
 
 // Slot j is process j's. Slots from 32 up do not count.
 pub fn tally<E: Copy, T: EntryTest<E>>(entries: &[E], test: &T) -> ProcessSet
-    ensures { result.bits ≡ tallied (accepts test.now) entries.now }
+    ensures { result.bits ≡ tallied (T.accepts test.now) entries.now }
 {
     let mut passing = ProcessSet::empty();
     for j in 0..slots(entries.len()) {

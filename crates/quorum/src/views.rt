@@ -7,7 +7,7 @@ use crate::tally::{AtLeast, tally};
 
 // The highest view that a blocking set wishes, and the highest that a quorum wishes; 0 where there is none.
 pub fn views<Q: QuorumRule>(rule: &Q, wishes: &[u32]) -> (u32, u32)
-    ensures { result ≡ (hopeful (meaning rule.now) wishes.now, settled (meaning rule.now) wishes.now) }
+    ensures { result ≡ (hopeful (Q.meaning rule.now) wishes.now, settled (Q.meaning rule.now) wishes.now) }
 {
     let mut hopeful = 0;
     let mut settled = 0;

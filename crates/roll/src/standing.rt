@@ -22,8 +22,8 @@ impl Standing {
     pub(crate) fn of<Q: QuorumRule>(rule: &Q, roll: &Roll, process: u8) -> Self
         ensures process { result.process ≡ process }
         ensures weight { result.weight ≡ weight_in roll.now process }
-        ensures alone { Decides result.blocks_alone (Blocking (meaning rule.now) (joined 0 process)) }
-        ensures without { result.others_decide ≡ (meaning rule.now).quorum (others (meaning rule.now).size (joined 0 process)) }
+        ensures alone { Decides result.blocks_alone (Blocking (Q.meaning rule.now) (joined 0 process)) }
+        ensures without { result.others_decide ≡ (Q.meaning rule.now).quorum (others (Q.meaning rule.now).size (joined 0 process)) }
     {
         let alone = ProcessSet::empty().insert(process);
         Standing {

@@ -12,7 +12,7 @@ use quorum::rules::QuorumRule;
 
 // Makes the move, in the row.
 pub fn perform<Q: QuorumRule>(rule: &Q, plan: Plan, post: &[Message], count: u16, row: &mut Row)
-    ensures { row.new ≡ planned (meaning rule.now).size (posted (meaning rule.now).size post.now count) row.old plan }
+    ensures { row.new ≡ planned (Q.meaning rule.now).size (posted (Q.meaning rule.now).size post.now count) row.old plan }
 {
     match plan {
         Plan::Relay { view } => row.relayed = view,

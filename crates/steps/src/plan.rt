@@ -23,7 +23,7 @@ pub fn plan_move<Q: QuorumRule>(
     process: u8,
     row: &Row,
 ) -> Option<Plan>
-    ensures { result ≡ plan (meaning rule.now) (posted (meaning rule.now).size post.now count) process row.now }
+    ensures { result ≡ plan (Q.meaning rule.now) (posted (Q.meaning rule.now).size post.now count) process row.now }
 {
     let (hopeful, settled) = views(rule, &row.wishes);
     if row.relayed < hopeful {
@@ -49,7 +49,7 @@ fn may_take_up(hopeful: u32, settled: u32, view: u32) -> bool
 
 // Whether the process leads its view, has not proposed in it, and holds a quorum of reports.
 fn may_propose<Q: QuorumRule>(rule: &Q, size: u8, process: u8, ballot: &Ballot) -> bool
-    ensures { result ≡ (leads size ballot.now.view process && (not ballot.now.proposed && (meaning rule.now).quorum (cited ballot.now.reports))) }
+    ensures { result ≡ (leads size ballot.now.view process && (not ballot.now.proposed && (Q.meaning rule.now).quorum (cited ballot.now.reports))) }
 {
     is_leader(size, ballot.view, process)
         && !ballot.proposed
@@ -64,7 +64,7 @@ fn plan_vote<Q: QuorumRule>(
     size: u8,
     row: &Row,
 ) -> Option<Plan>
-    ensures { result ≡ vote_plan (meaning rule.now) (posted size post.now count) row.now.ballot row.now.ballot.phase row.now.decision }
+    ensures { result ≡ vote_plan (Q.meaning rule.now) (posted size post.now count) row.now.ballot row.now.ballot.phase row.now.decision }
 {
     let ballot = &row.ballot;
     let vote = HeldValue {
@@ -85,7 +85,7 @@ fn plan_vote<Q: QuorumRule>(
 
 // Whether a quorum's messages are held with the value of `vote`.
 fn is_backed<'a, Q: QuorumRule>(rule: &Q, held: &[u16; 32], vote: &HeldValue<'a>) -> bool
-    ensures { result ≡ (meaning rule.now).quorum (backers (posted vote.now.size vote.now.post.now vote.now.count) held.now vote.now.value) }
+    ensures { result ≡ (Q.meaning rule.now).quorum (backers (posted vote.now.size vote.now.post.now vote.now.count) held.now vote.now.value) }
 {
     rule.is_quorum(tally(held, vote))
 }

@@ -22,8 +22,8 @@ pub fn give<Q: QuorumRule, V: ValidityRule>(
     row: &mut Row,
     place: u16,
 ) -> Result<(), Refusal>
-    ensures answer { result ≡ answered (giving_fault (meaning rule.now) (valid validity.now) (posted (meaning rule.now).size post.now count) process row.old place) tt }
-    ensures after { row.new ≡ kept (giving_fault (meaning rule.now) (valid validity.now) (posted (meaning rule.now).size post.now count) process row.old place) row.old (taken (posted (meaning rule.now).size post.now count) row.old place) }
+    ensures answer { result ≡ answered (giving_fault (Q.meaning rule.now) (V.valid validity.now) (posted (Q.meaning rule.now).size post.now count) process row.old place) tt }
+    ensures after { row.new ≡ kept (giving_fault (Q.meaning rule.now) (V.valid validity.now) (posted (Q.meaning rule.now).size post.now count) process row.old place) row.old (taken (posted (Q.meaning rule.now).size post.now count) row.old place) }
 {
     check_giving(rule, validity, post, count, process, row, place)?;
     take(rule, post, count, row, place);
@@ -32,7 +32,7 @@ pub fn give<Q: QuorumRule, V: ValidityRule>(
 
 // Takes the message at `place` into the row.
 fn take<Q: QuorumRule>(rule: &Q, post: &[Message], count: u16, row: &mut Row, place: u16)
-    ensures { row.new ≡ taken (posted (meaning rule.now).size post.now count) row.old place }
+    ensures { row.new ≡ taken (posted (Q.meaning rule.now).size post.now count) row.old place }
 {
     let message = message_at(post, count, rule.size(), place);
     let sender = message.sender as usize;

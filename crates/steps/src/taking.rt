@@ -29,7 +29,7 @@ pub(crate) fn check_giving<Q: QuorumRule, V: ValidityRule>(
     row: &Row,
     place: u16,
 ) -> Result<(), Refusal>
-    ensures { result ≡ answered (giving_fault (meaning rule.now) (valid validity.now) (posted (meaning rule.now).size post.now count) process row.now place) tt }
+    ensures { result ≡ answered (giving_fault (Q.meaning rule.now) (V.valid validity.now) (posted (Q.meaning rule.now).size post.now count) process row.now place) tt }
 {
     let message = message_at(post, count, rule.size(), place);
     let sender = message.sender as usize;
@@ -61,7 +61,7 @@ fn check_report<Q: QuorumRule>(
     place: u16,
 ) -> Result<(), Refusal>
     requires { report.now.sender < 32 }
-    ensures { result ≡ answered (first (timely row.now report.now place) (first (fault_if (not (leads (meaning rule.now).size row.now.ballot.view process)) (NotLeader place)) (first (vacant (place_at row.now.ballot.reports report.now.sender) place) (option_map InReport (report_fault (meaning rule.now) (posted (meaning rule.now).size post.now count) report.now place))))) tt }
+    ensures { result ≡ answered (first (timely row.now report.now place) (first (fault_if (not (leads (Q.meaning rule.now).size row.now.ballot.view process)) (NotLeader place)) (first (vacant (place_at row.now.ballot.reports report.now.sender) place) (option_map InReport (report_fault (Q.meaning rule.now) (posted (Q.meaning rule.now).size post.now count) report.now place))))) tt }
 {
     check_timely(row, report, place)?;
     check(
@@ -83,7 +83,7 @@ fn check_proposal<Q: QuorumRule, V: ValidityRule>(
     proposal: &Message,
     place: u16,
 ) -> Result<(), Refusal>
-    ensures { result ≡ answered (first (timely row.now proposal.now place) (first (vacant row.now.ballot.proposal place) (option_map InProposal (proposal_fault (meaning rule.now) (valid validity.now) (posted (meaning rule.now).size post.now count) proposal.now place)))) tt }
+    ensures { result ≡ answered (first (timely row.now proposal.now place) (first (vacant row.now.ballot.proposal place) (option_map InProposal (proposal_fault (Q.meaning rule.now) (V.valid validity.now) (posted (Q.meaning rule.now).size post.now count) proposal.now place)))) tt }
 {
     check_timely(row, proposal, place)?;
     check_vacant(row.ballot.proposal, place)?;
