@@ -1,14 +1,21 @@
 -- The judging of a proposal, as the code goes about it: n is the rule's size. Assumes nothing.
 --     by_offer, by_citation, by_highest     which fault is the first
-use Rattle.std.proofs.Common.{◌≡◌, ℕ, ◌<◌, Bool, not, List, Some, None, Option, sym, ◌∙◌, subst}
+use Rattle.std.proofs.Common.{◌≡◌, ℕ, ◌<◌, Bool, not, List, Some, None, Option, refl, sym, ◌∙◌, subst}
 use Rattle.sets.specs.Rules.{Rule}
 use Rattle.quorum.specs.Firsts.{fault_if, first, first_below}
 use Rattle.quorum.proofs.Found.{first_here}
 use Rattle.mail.specs.declared.message.Message.{Message}
 use Rattle.mail.specs.declared.faults.ProposalFault.{ProposalFault}
-use Rattle.mail.specs.declared.faults.ProposalFault.TheVariants.{NotHighest}
-use Rattle.mail.specs.Messages.{posted}
+use Rattle.mail.specs.declared.faults.ProposalFault.TheVariants.{NotLeader, NotValid, TooFewReports, NotHighest}
+use Rattle.mail.specs.Messages.{posted, cited}
+use Rattle.mail.specs.Leaders.{leads}
 use Rattle.mail.specs.Judging.{offer_fault, citation_fault, is_highest, proposal_fault}
+
+module _ {F : Type 0} where
+  first_assoc : (a b c d : Option F) → first (first a (first b c)) d ≡ first a (first b (first c d))
+  first_assoc None None c d = refl
+  first_assoc None (Some e) c d = refl
+  first_assoc (Some e) b c d = refl
 
 module _ (m : Rule) (valid : ℕ → Bool) (post : List Message) (c n : ℕ) (x : Message) (k : ℕ) where
   abbrev judged : Option ProposalFault
@@ -17,14 +24,19 @@ module _ (m : Rule) (valid : ℕ → Bool) (post : List Message) (c n : ℕ) (x 
   abbrev pub citation : ℕ → Option ProposalFault
   citation = citation_fault m (posted m.size post c) x k
 
-  pub by_offer : (e : ProposalFault) → offer_fault m valid x k ≡ Some e → judged ≡ Some e
+  offered : judged ≡ first (offer_fault m valid x k) (first (first_below citation m.size) (fault_if (not (is_highest m.size (posted m.size post c) x)) (NotHighest k)))
   unfolding proposal_fault
-  by_offer e h = rw h
+  offered =
+      sym (first_assoc (fault_if (not (leads m.size x.view x.sender)) (NotLeader k)) (fault_if (not (valid x.value)) (NotValid k))
+      (fault_if (not (m.quorum (cited x.citations))) (TooFewReports k))
+      (first (first_below citation m.size) (fault_if (not (is_highest m.size (posted m.size post c) x)) (NotHighest k))))
+
+  pub by_offer : (e : ProposalFault) → offer_fault m valid x k ≡ Some e → judged ≡ Some e
+  by_offer e h = offered ∙ rw h
 
   module _ (sound : offer_fault m valid x k ≡ None) (size_is : n ≡ m.size) where
     past_offer : judged ≡ first (first_below citation n) (fault_if (not (is_highest m.size (posted m.size post c) x)) (NotHighest k))
-    unfolding proposal_fault
-    past_offer = rw (sound, size_is)
+    past_offer = offered ∙ rw (sound, size_is)
 
     pub by_citation : (e : ProposalFault) (j : ℕ) → j < n → first_below citation j ≡ None → citation j ≡ Some e → judged ≡ Some e
     by_citation e j h p r = past_offer ∙ rw (first_here citation j n e h p r)
