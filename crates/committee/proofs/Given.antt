@@ -5,7 +5,6 @@
 use Rattle.std.proofs.Common.{◌≡◌, ℕ, suc, ◌+◌, ◌<◌, ◌≤◌, Bool, true, false, cond, ◌&&◌, ◌||◌, eqb, ltb, leb, List, length, get_or, Some, None, Ok, Err, Option, sym, refl, ap, ◌∙◌, add-zero, add-one, arith}
 use Rattle.std.proofs.lemmas.List.{get_or_past}
 use Rattle.std.proofs.lemmas.Bool.{and_parts, eqb-false, ltb-false, lt-ltb, ne_eqb, leb-true, false≢true}
-use Rattle.sets.specs.Rules.{Rule}
 use Rattle.quorum.specs.Firsts.{fault_if, first}
 use Rattle.mail.specs.declared.message.Message.{Message}
 use Rattle.mail.specs.Messages.{blank, silence, proper, posted, kind_wish, kind_committed}
@@ -13,7 +12,8 @@ use Rattle.protocol.specs.declared.row.Row.{Row}
 use Rattle.protocol.specs.declared.refusal.Refusal.{Refusal}
 use Rattle.protocol.specs.declared.refusal.Refusal.TheVariants.{NoMessage, Late, Early}
 use Rattle.protocol.specs.Settings.{Setting, State, outcome, row, mail, put}
-use Rattle.protocol.specs.Calls.{lent_fault, run_fault, timely, by_kind, taking_fault, giving_fault, taken, deliver}
+use Rattle.protocol.specs.Calls.{lent_fault, run_fault, timely, by_kind, taking_fault, taken, deliver}
+use Rattle.steps.specs.Giving.{giving_fault}
 use Rattle.protocol.specs.Sweeps.{Sweeping, given, given_all}
 use Rattle.committee.specs.Sweeping.{due}
 
@@ -44,14 +44,14 @@ same_cond false a = refl
 other_kind : (c : ℕ) (t one a b d f : Option Refusal) (e : Refusal) → eqb c kind_wish ≡ false → t ≡ Some e → by_kind c one (first t a) (first t b) (first t d) (first t f) ≡ Some e
 other_kind c t one a b d f e not_wish t_is = rw (not_wish, t_is) (simp same_cond)
 
-module _ (m : Rule) (valid : ℕ → Bool) (M : ℕ → Message) (i : ℕ) (r : Row) (k : ℕ) where
-  untaken : eqb (M k).kind kind_wish ≡ false → eqb (M k).view r.ballot.view ≡ false → Refuses (giving_fault m valid M i r k)
+module _ (S : Setting) (M : ℕ → Message) (i : ℕ) (r : Row) (k : ℕ) where
+  untaken : eqb (M k).kind kind_wish ≡ false → eqb (M k).view r.ballot.view ≡ false → Refuses (giving_fault S M i r k)
   unfolding taking_fault
   untaken not_wish other =
       let t = untimely r (M k) k other in
       first_refuses (fault_if (eqb (M k).kind 0) NoMessage) _ (t.0, other_kind (M k).kind (timely r (M k) k) _ _ _ _ _ t.0 not_wish t.1)
 
-  absent : (M k).kind ≡ 0 → Refuses (giving_fault m valid M i r k)
+  absent : (M k).kind ≡ 0 → Refuses (giving_fault S M i r k)
   absent e = (NoMessage, rw e)
 
 neither : (a b : Bool) → (a || b) ≡ false → (a ≡ false) × (b ≡ false)
@@ -72,19 +72,19 @@ module _ (S : Setting) (s : State) (i k : ℕ) (not_due : due s.post k (row s i)
           let none : there.kind ≡ 0 = rw past in
           absurd (omega arith)
 
-  undelivered : Refuses (giving_fault S.rule S.valid (mail S s) i (row s i) (suc k))
+  undelivered : Refuses (giving_fault S (mail S s) i (row s i) (suc k))
   unfolding posted
   undelivered = go (ltb k s.count && proper S.rule.size there) refl
     where
-      go : (b : Bool) → (ltb k s.count && proper S.rule.size there) ≡ b → Refuses (giving_fault S.rule S.valid (mail S s) i (row s i) (suc k))
-      go false e = absent S.rule S.valid (mail S s) i (row s i) (suc k) (rw e)
+      go : (b : Bool) → (ltb k s.count && proper S.rule.size there) ≡ b → Refuses (giving_fault S (mail S s) i (row s i) (suc k))
+      go false e = absent S (mail S s) i (row s i) (suc k) (rw e)
       go true e =
           let p = (and_parts (ltb k s.count) (proper S.rule.size there) e).1 in
           let kinds = (and_parts (ltb there.sender S.rule.size) _ p).1 in
           let some = leb-true kind_wish there.kind (and_parts (leb kind_wish there.kind) (leb there.kind kind_committed) kinds).0 in
           let h : (eqb there.kind kind_wish || eqb there.view (row s i).ballot.view) ≡ false = rw (inside some) at not_due in
           let n = neither _ _ h in
-          untaken S.rule S.valid (mail S s) i (row s i) (suc k) (rw e n.0) (rw e n.1)
+          untaken S (mail S s) i (row s i) (suc k) (rw e n.0) (rw e n.1)
 
 module _ (S : Setting) (i k : ℕ) (w : Sweeping) where
   pub passed_over : due w.state.post k (row w.state i).ballot.view ≡ false → given S i (suc k) w ≡ w
@@ -98,7 +98,7 @@ module _ (S : Setting) (i k : ℕ) (w : Sweeping) where
 
   keeps : moved_to (deliver S w.state i k).state.table ≡ (deliver S w.state i k).state
   unfolding deliver
-  keeps = go (first (lent_fault S w.state) (first (run_fault S i) (giving_fault S.rule S.valid (mail S w.state) i (row w.state i) k)))
+  keeps = go (first (lent_fault S w.state) (first (run_fault S i) (giving_fault S (mail S w.state) i (row w.state i) k)))
     where
       go : (o : Option Refusal) → moved_to (outcome {A = Unit {0}} w.state o tt (put w.state i (taken (mail S w.state) (row w.state i) k))).state.table ≡ (outcome {A = Unit {0}} w.state o tt (put w.state i (taken (mail S w.state) (row w.state i) k))).state
       go None = refl

@@ -10,7 +10,8 @@ use Rattle.quorum.proofs.Found.{both_none, holds_then}
 use Rattle.protocol.specs.declared.call.Posting.{Posting}
 use Rattle.protocol.specs.declared.refusal.Refusal.{Refusal}
 use Rattle.protocol.specs.Settings.{Setting, State, outcome, has_room}
-use Rattle.protocol.specs.Calls.{lent_fault, run_fault, foreign_fault, full_fault, expire_fault, post_fault}
+use Rattle.protocol.specs.Calls.{lent_fault, run_fault, foreign_fault, full_fault}
+use Rattle.committee.specs.Reasons.{expire_fault, post_fault}
 use Rattle.agreement.proofs.Granted.{lent_is}
 
 pub refuses : {A : Type 0} (r : Result A Refusal) (e : Refusal) (s : State) (o : Option Refusal) (x : A) (t : State) → IsErrAnd r (λ y. y ≡ e) → o ≡ Some e → r ≡ (outcome s o x t).answer

@@ -5,7 +5,9 @@ use Rattle.std.proofs.Common.{◌≡◌, ℕ, Some, None, Option, refl}
 use Rattle.protocol.specs.declared.call.Posting.{Posting}
 use Rattle.protocol.specs.declared.refusal.Refusal.{Refusal}
 use Rattle.protocol.specs.Settings.{Setting, State, outcome, row, mail}
-use Rattle.protocol.specs.Calls.{expire_fault, expire, post_fault, post, lent_fault, run_fault, giving_fault, deliver}
+use Rattle.protocol.specs.Calls.{expire, post, lent_fault, run_fault, deliver}
+use Rattle.steps.specs.Giving.{giving_fault}
+use Rattle.committee.specs.Reasons.{expire_fault, post_fault}
 use Rattle.quorum.specs.Firsts.{first}
 
 -- what an outcome has, if both its states do
@@ -24,7 +26,7 @@ module _ (S : Setting) (s : State) where
 
   module _ (i k : ℕ) where
     abbrev fault : Option Refusal
-    fault = first (lent_fault S s) (first (run_fault S i) (giving_fault S.rule S.valid (mail S s) i (row s i) k))
+    fault = first (lent_fault S s) (first (run_fault S i) (giving_fault S (mail S s) i (row s i) k))
 
     pub deliver_post : (deliver S s i k).state.post ≡ s.post
     unfolding deliver

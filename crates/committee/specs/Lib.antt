@@ -1,3 +1,4 @@
 pub mod Committees
 pub mod Readiness
+pub mod Reasons
 pub mod Sweeping

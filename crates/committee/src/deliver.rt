@@ -2,7 +2,8 @@
 ghost use Rattle.std.specs.Prelude.{◌≡◌};
 ghost use Rattle.quorum.specs.Firsts.{answered, kept};
 ghost use Rattle.mail.specs.Messages.{posted};
-ghost use Rattle.protocol.specs.Calls.{deliver, giving_fault, taken};
+ghost use Rattle.protocol.specs.Calls.{deliver, taken};
+ghost use Rattle.steps.specs.Giving.{giving_fault, ruled};
 ghost use Rattle.committee.specs.Committees.{lent, over};
 
 use crate::committee::Committee;
@@ -38,8 +39,8 @@ impl<Q: QuorumRule, V: ValidityRule> Committee<Q, V> {
         row: &mut Row,
         place: u16,
     ) -> Result<(), Refusal>
-        ensures answer { result ≡ answered (giving_fault (Q.meaning self.now.rule) (V.valid self.now.validity) (posted (Q.meaning self.now.rule).size post.now self.now.books.count) process row.old place) tt }
-        ensures after { row.new ≡ kept (giving_fault (Q.meaning self.now.rule) (V.valid self.now.validity) (posted (Q.meaning self.now.rule).size post.now self.now.books.count) process row.old place) row.old (taken (posted (Q.meaning self.now.rule).size post.now self.now.books.count) row.old place) }
+        ensures answer { result ≡ answered (giving_fault (ruled (Q.meaning self.now.rule) (V.valid self.now.validity)) (posted (Q.meaning self.now.rule).size post.now self.now.books.count) process row.old place) tt }
+        ensures after { row.new ≡ kept (giving_fault (ruled (Q.meaning self.now.rule) (V.valid self.now.validity)) (posted (Q.meaning self.now.rule).size post.now self.now.books.count) process row.old place) row.old (taken (posted (Q.meaning self.now.rule).size post.now self.now.books.count) row.old place) }
     {
         let count = self.books.count;
         give(&self.rule, &self.validity, post, count, process, row, place)

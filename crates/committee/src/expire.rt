@@ -1,7 +1,8 @@
 // Expiry: a process wishes a later view.
 ghost use Rattle.std.specs.Prelude.{◌≡◌, ◌+◌, ◌<◌, max};
 ghost use Rattle.quorum.specs.Firsts.{answered};
-ghost use Rattle.protocol.specs.Calls.{expire, expire_fault};
+ghost use Rattle.protocol.specs.Calls.{expire};
+ghost use Rattle.committee.specs.Reasons.{expire_fault};
 ghost use Rattle.committee.specs.Committees.{counted, lent, over};
 
 use crate::committee::Committee;

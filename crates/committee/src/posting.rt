@@ -1,7 +1,8 @@
 // Posting: a foreign process adds a message.
 ghost use Rattle.std.specs.Prelude.{◌≡◌};
 ghost use Rattle.quorum.specs.Firsts.{answered};
-ghost use Rattle.protocol.specs.Calls.{post as posted_by, post_fault};
+ghost use Rattle.protocol.specs.Calls.{post as posted_by};
+ghost use Rattle.committee.specs.Reasons.{post_fault};
 ghost use Rattle.committee.specs.Committees.{counted, lent, over};
 
 use crate::committee::Committee;

@@ -2,15 +2,14 @@
 --     leads_is         who leads, by the test
 --     mapped_none      no fault of a lower layer
 --     judging          all three
-use Rattle.std.proofs.Common.{◌≡◌, ℕ, ◌<◌, ◌≤◌, Bool, true, false, cond, not, ◌&&◌, ◌||◌, eqb, ltb, ◌≢◌, List, Some, None, Option, sym, refl, ap, ◌∙◌, subst, ⊎_elim, arith}
+use Rattle.std.proofs.Common.{◌≡◌, ℕ, ◌<◌, Bool, true, false, cond, not, ◌&&◌, eqb, ltb, ◌≢◌, List, Some, None, Option, sym, refl, ap, ◌∙◌, ⊎_elim, arith}
 use Rattle.std.specs.Option.{option_map}
 use Rattle.std.proofs.lemmas.Bool.{and_parts, and_from, eqb-true, eq-eqb, ne_eqb, ltb-true, lt-ltb, cases_eq, or_cases, or_left, or_right, false≢true}
 use Rattle.sets.specs.Rules.{Rule}
-use Rattle.quorum.specs.Firsts.{fault_if, first, first_below}
+use Rattle.quorum.specs.Firsts.{fault_if, first_below}
 use Rattle.quorum.proofs.Found.{both_none, none_both, none_below, below_none, holds_then}
 use Rattle.mail.specs.declared.message.Message.{Message}
-use Rattle.mail.specs.declared.faults.CertificateFault.{CertificateFault}
-use Rattle.mail.specs.Messages.{place_at, held, cited, silence, is_vote, is_report, has_lock, kind_report, kind_prepared}
+use Rattle.mail.specs.Messages.{place_at, held, cited, silence, is_vote, is_report, kind_report, kind_prepared}
 use Rattle.mail.specs.Leaders.{leader_of, leads}
 use Rattle.mail.specs.Judging.{vote_fault, certificate_fault, report_fault, citation_fault, top_lock, carries, is_highest, proposal_fault}
 use Rattle.mail.specs.Trust.{Vote, Certificate, ValidLock, Report, Carried, Proposal, Exactly, Judging}

@@ -1,7 +1,7 @@
 -- The highest locked view of a list of places, over what each place reads as. Assumes nothing.
 --     top_most, top_at            no place is above the highest, and one has it
 --     carries_at, carries_from    a place with a locked view and a value
-use Rattle.std.proofs.Common.{◌≡◌, ℕ, zero, suc, ◌<◌, ◌≤◌, max, Bool, true, false, ◌||◌, ◌⊎◌, List, sym, refl, ap, ◌∙◌, subst, inl, inr, ⊎_elim, arith}
+use Rattle.std.proofs.Common.{◌≡◌, ℕ, zero, suc, ◌<◌, ◌≤◌, max, true, ◌⊎◌, List, sym, refl, ◌∙◌, subst, inl, inr, ⊎_elim, arith}
 use Rattle.std.proofs.lemmas.Bool.{cases_lt, or_cases, or_left, or_right, false≢true}
 use Rattle.mail.specs.declared.message.Message.{Message}
 use Rattle.mail.specs.Messages.{place_at, has_lock}

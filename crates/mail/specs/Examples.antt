@@ -4,7 +4,7 @@
 --                                  reports of view 3 by 0 (not locked), 1 (locked in 2) and 2 (locked in 1), at places 7, 8 and 9
 --     offer a                      the proposal of view 3 and value a that cites these reports, at place 10
 --     Examples                     the examples
-use Rattle.std.specs.Prelude.{◌≡◌, ℕ, ◌+◌, Bool, true, List, [], ◌∷◌, ◌++◌, replicate, Some, None, Option}
+use Rattle.std.specs.Prelude.{◌≡◌, ℕ, true, List, [], ◌∷◌, ◌++◌, replicate, Some, None, Option}
 use Rattle.std.specs.Option.{option_map}
 use Rattle.sets.specs.Weighing.{counting}
 use Rattle.quorum.specs.declared.faults.FaultNumbers.{FaultNumbers}

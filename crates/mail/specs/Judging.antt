@@ -8,7 +8,7 @@
 --     is_highest n M x                      no cited report is locked, or one with the highest locked view has x's value
 --     offer_fault m valid x k               of the proposal x, before its citations: not the leader's; no valid value; no quorum of reports
 --     proposal_fault m valid M x k          of the proposal x: not the leader's; no valid value; no quorum of reports; slot by slot, its citations'; not a highest value
-use Rattle.std.specs.Prelude.{ℕ, zero, suc, max, Bool, false, cond, not, ◌&&◌, ◌||◌, List, Some, None, Option, ◌==◌, nat_lt}
+use Rattle.std.specs.Prelude.{ℕ, zero, suc, max, Bool, false, cond, not, ◌||◌, List, None, Option, ◌==◌, nat_lt}
 use Rattle.std.specs.Option.{option_map}
 use Rattle.sets.specs.Rules.{Rule}
 use Rattle.quorum.specs.Firsts.{fault_if, first, first_below}

@@ -1,5 +1,6 @@
 // Messages, the places of a post, and what makes a certificate, a valid report, a safe proposal.
 #![tactic(auto)]
+
 pub mod certificate;
 pub mod claims;
 pub mod faults;

@@ -6,7 +6,6 @@ use Rattle.std.specs.Prelude.{ℕ, cond, List, [], ◌∷◌, ◌++◌, Some, No
 use Rattle.std.specs.Option.{option_map}
 use Rattle.numerals.specs.declared.field.Field.{Field}
 use Rattle.numerals.specs.declared.field.Field.TheVariants.{Empty}
-use Rattle.numerals.specs.declared.field.Step.{Step}
 use Rattle.numerals.specs.declared.field.Step.TheVariants.{Read, Ended, Wrong}
 use Rattle.numerals.specs.Fields.{next, ended}
 

@@ -12,7 +12,7 @@
 --     made S s i r p            the state after the move p
 --     move S s i                process i makes the first possible move
 --     decision S s i            the decision of process i, or its absence
-use Rattle.std.specs.Prelude.{ℕ, ◌+◌, max, Bool, cond, not, ◌&&◌, length, is_some, Some, None, Err, Option, ◌==◌, nat_lt}
+use Rattle.std.specs.Prelude.{ℕ, ◌+◌, max, cond, not, ◌&&◌, length, is_some, Some, None, Err, Option, ◌==◌, nat_lt}
 use Rattle.std.specs.Option.{option_map}
 use Rattle.sets.specs.Sets.{has}
 use Rattle.quorum.specs.Firsts.{fault_if, first}

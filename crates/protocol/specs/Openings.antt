@@ -5,7 +5,7 @@
 --     new_rows owns table n        the table with the first n rows new
 --     opening m valid b ..         the opening of a committee that has the numbers b
 --     setting m valid b            what a committee of two rules and these numbers is for good
-use Rattle.std.specs.Prelude.{ℕ, zero, suc, Bool, not, ◌&&◌, ◌||◌, List, length, set, Option, Result, ◌==◌, nat_lt, slice_index, slice_set}
+use Rattle.std.specs.Prelude.{ℕ, zero, suc, Bool, not, ◌&&◌, ◌||◌, List, length, Option, Result, ◌==◌, nat_lt, slice_index, slice_set}
 use Rattle.sets.specs.Sets.{has, below}
 use Rattle.sets.specs.Rules.{Rule}
 use Rattle.quorum.specs.Firsts.{fault_if, first, first_below, answered, kept}

@@ -10,7 +10,7 @@
 --     Change S s t                      one step of a run process, an expiry's wish or a foreign message leads from s to t
 --     Opened S s                        s is as an accepted opening leaves it
 --     Reached S s                       changes lead from an opened committee to s
-use Rattle.std.specs.Prelude.{◌≡◌, ℕ, ◌+◌, ◌<◌, ◌≤◌, max, Bool, true, false, ◌≢◌, ◌⊎◌, List, length, Some, None}
+use Rattle.std.specs.Prelude.{◌≡◌, ℕ, ◌+◌, ◌<◌, ◌≤◌, max, true, false, ◌≢◌, List, length, Some, None}
 use Rattle.sets.specs.Sets.{has}
 use Rattle.sets.specs.Rules.{Rule, Blocking}
 use Rattle.quorum.specs.Wishes.{Highest, wishing}

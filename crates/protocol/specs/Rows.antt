@@ -7,7 +7,7 @@
 --     with_ballot r b                             r with another ballot
 --     holds_report b j k, holds_prepared b j k,
 --     holds_committed b j k, holds_proposal b k   the ballot b that holds the place k
-use Rattle.std.specs.Prelude.{ℕ, true, false, List, [], replicate, None, slice_set}
+use Rattle.std.specs.Prelude.{ℕ, false, List, [], replicate, None, slice_set}
 use Rattle.protocol.specs.declared.row.Row.{Row}
 use Rattle.protocol.specs.declared.row.Ballot.{Ballot}
 use Rattle.protocol.specs.declared.row.Phase.TheVariants.{Fresh}

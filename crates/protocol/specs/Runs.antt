@@ -2,7 +2,7 @@
 --     carry_out S s c       what the call c answers, and the state after
 --     run S s cs            the state after a list of calls
 --     answers S s cs        what they answer
-use Rattle.std.specs.Prelude.{ℕ, List, [], ◌∷◌, Ok, Err, Result}
+use Rattle.std.specs.Prelude.{List, [], ◌∷◌, Ok, Err, Result}
 use Rattle.protocol.specs.declared.call.Call.{Call}
 use Rattle.protocol.specs.declared.call.Call.TheVariants.{Expire, Post, Deliver, MakeMove, Sweep}
 use Rattle.protocol.specs.declared.call.Answer.{Answer}

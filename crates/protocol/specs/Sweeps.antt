@@ -6,7 +6,7 @@
 --     turn S c w i             w after the turn of process i, with c messages posted before the sweep
 --     turns S c w n            w after the turns of the processes below n
 --     sweep S s                the call
-use Rattle.std.specs.Prelude.{ℕ, zero, suc, ◌+◌, Bool, cond, is_ok, Ok, Err, Result, ◌==◌}
+use Rattle.std.specs.Prelude.{ℕ, zero, suc, ◌+◌, Bool, cond, is_ok, Ok, Err, ◌==◌}
 use Rattle.sets.specs.Sets.{has}
 use Rattle.protocol.specs.declared.call.Swept.{Swept}
 use Rattle.protocol.specs.declared.refusal.Refusal.{Refusal}

@@ -1,5 +1,6 @@
 // Rows, refusals, moves and calls. What each call does stands in specs/.
 #![tactic(auto)]
+
 pub mod call;
 pub mod claims;
 pub mod moves;

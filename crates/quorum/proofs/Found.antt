@@ -5,7 +5,7 @@
 --     faultless, holds_then       no fault: the test fails, or the fact that is asked for holds
 --     none_from_ok, ok_value, some_from_err     what an answer tells
 --     exits                       what is answered where a `?` leaves
-use Rattle.std.proofs.Common.{◌≡◌, ℕ, zero, suc, ◌+◌, ◌<◌, ◌≤◌, Bool, true, false, not, IsErrAnd, Some, None, Ok, Err, Option, Result, sym, refl, ap, ◌∙◌, ⊎_elim, add-one, arith}
+use Rattle.std.proofs.Common.{◌≡◌, ℕ, zero, suc, ◌+◌, ◌<◌, ◌≤◌, Bool, true, false, not, IsErrAnd, Some, None, Ok, Err, Option, Result, refl, ⊎_elim, add-one, arith}
 use Rattle.std.proofs.lemmas.Result.{err_from_is_err_and}
 use Rattle.std.proofs.lemmas.Bool.{cases_lt, false≢true}
 use Rattle.quorum.specs.Firsts.{fault_if, first, first_below, answered}

@@ -1,11 +1,11 @@
 -- The highest wish whose set passes is the highest of all views whose set passes.
 --     highest_is       for any test of sets that disregards members from n up and refuses the empty set
 --     views_are        for the two questions of a lawful rule
-use Rattle.std.proofs.Common.{◌≡◌, ℕ, zero, suc, ◌+◌, ◌-◌, ◌<◌, ◌≤◌, max, Bool, true, false, cond, not, leb, ◌⊎◌, List, [], ◌∷◌, length, get_or, Decides, sym, refl, ap, ◌∙◌, subst, inl, inr, ⊎_elim, add-one, arith}
+use Rattle.std.proofs.Common.{◌≡◌, ℕ, zero, suc, ◌+◌, ◌-◌, ◌<◌, ◌≤◌, Bool, true, false, not, leb, ◌⊎◌, List, [], ◌∷◌, get_or, Decides, sym, refl, ap, ◌∙◌, subst, inl, inr, ⊎_elim, add-one, arith}
 use Rattle.std.proofs.lemmas.Bool.{cases_lt, cases_eq, cases_Bool, lt-leb, both_ways, not_from_true}
 use Rattle.std.proofs.lemmas.Bool.Decides.{nat_tests, same_from_decides}
-use Rattle.sets.specs.Sets.{has, sift, Same}
-use Rattle.sets.specs.Rules.{Rule, Lawful, Blocking, Ground}
+use Rattle.sets.specs.Sets.{has, Same}
+use Rattle.sets.specs.Rules.{Rule, Lawful, Blocking}
 use Rattle.sets.proofs.Members.{has_sift, has_none}
 use Rattle.sets.proofs.Grounded.{blocking_is, grounded}
 use Rattle.quorum.specs.Tallies.{passing}

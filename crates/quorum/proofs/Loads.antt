@@ -2,16 +2,15 @@
 --     by_count, by_weight, by_total     which fault is the first
 --     Load xs, load                     what holds of a list without a fault
 --     total_is                          the set of all processes weighs the total
-use Rattle.std.proofs.Common.{◌≡◌, ℕ, zero, suc, ◌+◌, ◌*◌, ◌<◌, ◌≤◌, Bool, true, false, cond, not, ◌&&◌, eqb, ltb, leb, List, length, get_or, Some, None, Option, sym, refl, ap, ◌∙◌, ⊎_elim, arith}
+use Rattle.std.proofs.Common.{◌≡◌, ℕ, ◌<◌, ◌≤◌, Bool, true, false, cond, not, ◌&&◌, leb, List, length, Some, None, Option, ap, ◌∙◌, ⊎_elim, arith}
 use Rattle.std.proofs.lemmas.List.{get_or_past}
 use Rattle.std.proofs.lemmas.Bool.{leb-true, ltb-false, eqb-false, and_parts, not-false, cases_lt}
-use Rattle.std.proofs.lemmas.Bool.Decides.{nat_tests}
-use Rattle.sets.specs.Sets.{has, sift, others}
-use Rattle.sets.specs.Weighing.{weigh, weight, total, weighing}
+use Rattle.sets.specs.Sets.{has, others}
+use Rattle.sets.specs.Weighing.{weight}
 use Rattle.sets.proofs.Members.{has_sift, has_none}
 use Rattle.sets.proofs.Sums.{weigh_same}
-use Rattle.quorum.specs.Firsts.{fault_if, first_below}
-use Rattle.quorum.specs.WeightList.{weight_at, total_of, weights_rule, weights_fault, count_fault, heavy_fault, total_fault}
+use Rattle.quorum.specs.Firsts.{first_below}
+use Rattle.quorum.specs.WeightList.{weight_at, total_of, weights_fault, count_fault, heavy_fault, total_fault}
 use Rattle.quorum.specs.declared.faults.RuleFault.{RuleFault}
 use Rattle.quorum.proofs.Found.{both_none, none_below, first_here, faultless}
 

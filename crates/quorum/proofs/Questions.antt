@@ -1,5 +1,5 @@
 -- The two questions of each rule, from what the code computes: a count or a weight, and a comparison. Assumes nothing.
-use Rattle.std.proofs.Common.{◌≡◌, ℕ, ◌+◌, ◌*◌, ◌≤◌, not, ltb, leb, List, length, Decides, ap, ◌∙◌, arith}
+use Rattle.std.proofs.Common.{◌≡◌, ℕ, ◌+◌, ◌*◌, ◌≤◌, not, ltb, leb, List, length, Decides, arith}
 use Rattle.std.proofs.lemmas.Bool.Decides.{nat_tests, Decides-at}
 use Rattle.sets.specs.Rules.{Lawful, Blocking}
 use Rattle.sets.specs.Weighing.{weight, count, counting, weighing}

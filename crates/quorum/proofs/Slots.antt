@@ -2,9 +2,9 @@
 --     passing_at, passing_past    an entry that is there, and one that is not
 --     tally_more, tally_less      one slot more, whose entry passes or does not
 --     tally_all                   all slots
-use Rattle.std.proofs.Common.{◌≡◌, ℕ, zero, suc, ◌+◌, ◌^◌, ◌<◌, ◌≤◌, min, Bool, true, false, List, [], ◌∷◌, length, get_or, sym, refl, ap, ◌∙◌, ⊎_elim, arith, pow_mono}
+use Rattle.std.proofs.Common.{◌≡◌, ℕ, zero, suc, ◌+◌, ◌<◌, ◌≤◌, min, Bool, true, false, List, [], ◌∷◌, length, get_or, sym, refl, ap, ◌∙◌, ⊎_elim, arith, pow_mono}
 use Rattle.std.proofs.lemmas.Bool.{cases_lt}
-use Rattle.sets.specs.Sets.{has, sift, joined}
+use Rattle.sets.specs.Sets.{sift, joined}
 use Rattle.sets.proofs.Members.{same_set, sift_lt, has_sift, sift_past}
 use Rattle.sets.proofs.Unions.{sift_more, sift_less}
 use Rattle.quorum.specs.Tallies.{passing, tallied}

@@ -3,7 +3,7 @@
 --     total_of xs          the weight of all processes
 --     weights_rule xs      the rule by these weights
 --     weights_fault xs     the first of: not 1 to 32 weights; a weight above 1,000,000, the lowest such process named; no weight at all
-use Rattle.std.specs.Prelude.{ℕ, Bool, not, ◌&&◌, List, length, Option, ◌==◌, nat_le, nat_lt, slice_index}
+use Rattle.std.specs.Prelude.{ℕ, not, ◌&&◌, List, length, Option, ◌==◌, nat_le, nat_lt, slice_index}
 use Rattle.sets.specs.Rules.{Rule}
 use Rattle.sets.specs.Weighing.{total, weighing}
 use Rattle.quorum.specs.Firsts.{fault_if, first, first_below}

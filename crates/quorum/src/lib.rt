@@ -1,5 +1,6 @@
 // The two rules that a committee is given, the tally, and the pair of hopeful and settled view.
 #![tactic(auto)]
+
 pub mod claims;
 pub mod counting;
 pub mod faults;

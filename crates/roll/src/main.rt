@@ -1,5 +1,6 @@
 // What a roll gives each hall: reads rolls, a line each, and prints what every process of each can do.
 #![tactic(auto)]
+
 mod rolls;
 mod standing;
 mod summary;

@@ -4,7 +4,7 @@
 --     counting_lawful, weighing_lawful
 use Rattle.std.proofs.Common.{◌≡◌, ℕ, ◌+◌, ◌-◌, ◌*◌, ◌/◌, ◌<◌, ◌≤◌, true, false, not, ◌&&◌, Decides, arith}
 use Rattle.std.proofs.lemmas.Bool.{and_parts, not-true, leb-true, le-leb, ltb-true, lt-ltb}
-use Rattle.sets.specs.Sets.{has, others, Within}
+use Rattle.sets.specs.Sets.{has, others}
 use Rattle.sets.specs.Rules.{Rule, Lawful}
 use Rattle.sets.specs.Weighing.{weigh, total, weight, count, counting, weighing}
 use Rattle.sets.proofs.Members.{has_sift, has_none}

@@ -1,1 +1,2 @@
 pub mod Proposing
+pub mod Giving

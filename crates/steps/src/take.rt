@@ -2,7 +2,8 @@
 ghost use Rattle.std.specs.Prelude.{◌≡◌};
 ghost use Rattle.quorum.specs.Firsts.{answered, kept};
 ghost use Rattle.mail.specs.Messages.{posted};
-ghost use Rattle.protocol.specs.Calls.{giving_fault, taken};
+ghost use Rattle.protocol.specs.Calls.{taken};
+ghost use Rattle.steps.specs.Giving.{giving_fault, ruled};
 
 use crate::taking::check_giving;
 use mail::message::{Message, NEWLEADER, PREPARED, PROPOSE, WISH};
@@ -22,8 +23,8 @@ pub fn give<Q: QuorumRule, V: ValidityRule>(
     row: &mut Row,
     place: u16,
 ) -> Result<(), Refusal>
-    ensures answer { result ≡ answered (giving_fault (Q.meaning rule.now) (V.valid validity.now) (posted (Q.meaning rule.now).size post.now count) process row.old place) tt }
-    ensures after { row.new ≡ kept (giving_fault (Q.meaning rule.now) (V.valid validity.now) (posted (Q.meaning rule.now).size post.now count) process row.old place) row.old (taken (posted (Q.meaning rule.now).size post.now count) row.old place) }
+    ensures answer { result ≡ answered (giving_fault (ruled (Q.meaning rule.now) (V.valid validity.now)) (posted (Q.meaning rule.now).size post.now count) process row.old place) tt }
+    ensures after { row.new ≡ kept (giving_fault (ruled (Q.meaning rule.now) (V.valid validity.now)) (posted (Q.meaning rule.now).size post.now count) process row.old place) row.old (taken (posted (Q.meaning rule.now).size post.now count) row.old place) }
 {
     check_giving(rule, validity, post, count, process, row, place)?;
     take(rule, post, count, row, place);

@@ -6,7 +6,8 @@ ghost use Rattle.mail.specs.Messages.{place_at, posted};
 ghost use Rattle.mail.specs.Leaders.{leads};
 ghost use Rattle.mail.specs.Judging.{proposal_fault, report_fault};
 ghost use Rattle.protocol.specs.declared.refusal.Refusal.TheVariants.{Held, InProposal, InReport, NotLeader};
-ghost use Rattle.protocol.specs.Calls.{giving_fault, timely, vacant};
+ghost use Rattle.protocol.specs.Calls.{timely, vacant};
+ghost use Rattle.steps.specs.Giving.{giving_fault, ruled};
 
 use mail::faults::check;
 use mail::leader::is_leader;
@@ -29,7 +30,7 @@ pub(crate) fn check_giving<Q: QuorumRule, V: ValidityRule>(
     row: &Row,
     place: u16,
 ) -> Result<(), Refusal>
-    ensures { result ≡ answered (giving_fault (Q.meaning rule.now) (V.valid validity.now) (posted (Q.meaning rule.now).size post.now count) process row.now place) tt }
+    ensures { result ≡ answered (giving_fault (ruled (Q.meaning rule.now) (V.valid validity.now)) (posted (Q.meaning rule.now).size post.now count) process row.now place) tt }
 {
     let message = message_at(post, count, rule.size(), place);
     let sender = message.sender as usize;

@@ -1,6 +1,6 @@
-use Rattle.std.proofs.Common.{refl, ◌∙◌, arith}
+use Rattle.std.proofs.Common.{refl, arith}
 use Rattle.quorum.proofs.Found.{none_from_ok, some_from_err, exits, first_more}
-use Rattle.mail.proofs.Votes.{vote, by_quorum, by_vote, no_fault}
+use Rattle.mail.proofs.Votes.{by_quorum, by_vote, no_fault}
 use Rattle.mail.proofs.certificate.judge_certificate.Goals as goal
 
 pub returns-in_err-check : goal.returns-in_err-check

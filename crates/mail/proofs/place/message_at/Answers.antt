@@ -1,4 +1,4 @@
-use Rattle.std.proofs.Common.{Bool, true, false, sym, ap, ◌∙◌}
+use Rattle.std.proofs.Common.{true, false, sym, ◌∙◌}
 use Rattle.mail.proofs.Places.{posted_none, posted_at}
 use Rattle.mail.proofs.place.message_at.Goals as goal
 

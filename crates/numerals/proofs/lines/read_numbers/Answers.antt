@@ -1,4 +1,4 @@
-use Rattle.std.proofs.Common.{◌≡◌, vec_items, sym, refl, ap, ◌∙◌}
+use Rattle.std.proofs.Common.{vec_items, ◌∙◌}
 use Rattle.numerals.specs.Reading.{numbers}
 use Rattle.numerals.proofs.Bytes.{on_read, on_ended, on_wrong, on_end}
 use Rattle.numerals.proofs.lines.read_numbers.Goals as goal

@@ -1,4 +1,4 @@
-use Rattle.std.proofs.Common.{◌≤◌, refl, ◌∙◌, add-one, arith}
+use Rattle.std.proofs.Common.{refl, add-one, arith}
 use Rattle.sets.specs.Weighing.{weigh}
 use Rattle.quorum.proofs.Loads.{share_le}
 use Rattle.quorum.proofs.weights.weigh.Goals as goal

@@ -1,4 +1,4 @@
-use Rattle.std.proofs.Common.{◌≡◌, ℕ, None, sym, refl, ap, ◌∙◌}
+use Rattle.std.proofs.Common.{sym, ap}
 use Rattle.sets.specs.Weighing.{weigh}
 use Rattle.quorum.specs.WeightList.{weights_fault, total_of}
 use Rattle.quorum.proofs.Loads.{load}

@@ -1,4 +1,3 @@
-use Rattle.std.proofs.Common.{◌≡◌, sym, ◌∙◌}
 use Rattle.quorum.proofs.Found.{none_from_ok, ok_value}
 use Rattle.quorum.proofs.Loads.{load}
 use Rattle.quorum.proofs.weights.Weights.replace.Goals as goal
