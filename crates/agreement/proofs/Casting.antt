@@ -4,7 +4,7 @@
 --     locking                 a COMMITTED is sent
 --     reporting               a report is sent
 --     same                    a message of none of these kinds, or of another process
-use Rattle.std.proofs.Common.{◌≡◌, ℕ, ◌<◌, ◌≤◌, ◌≢◌, ◌⊎◌, List, sym, refl, ap, ◌∙◌, subst, inl, inr, arith}
+use Rattle.std.proofs.Common.{◌≡◌, ℕ, ◌<◌, ◌≢◌, List, sym, refl, ap, inl, inr, arith}
 use Rattle.mail.specs.declared.message.Message.{Message}
 use Rattle.mail.specs.Messages.{kind_report, kind_propose, kind_prepared, kind_committed}
 use Rattle.mail.specs.Trust.{Certificate, Proposal}

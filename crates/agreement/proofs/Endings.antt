@@ -22,7 +22,7 @@ use Rattle.protocol.specs.declared.refusal.Refusal.{Refusal}
 use Rattle.protocol.specs.Settings.{Setting, State, Runs, row, mail, put}
 use Rattle.protocol.specs.Rows.{blank_row}
 use Rattle.protocol.specs.Plans.{planned, sends}
-use Rattle.protocol.specs.Calls.{sent, made, moving, after, move}
+use Rattle.protocol.specs.Calls.{made, moving, after, move}
 use Rattle.protocol.specs.Sweeps.{Sweeping, is_full, settle}
 use Rattle.protocol.specs.Protocol.{Can, relay, take_up, propose, vote, lock, decide}
 use Rattle.agreement.specs.Exactness.{Lent}

@@ -6,7 +6,7 @@
 --     Votes, Locks, Holds, Decides, Local, Sound        what safety rests on
 --     Wishing, Reporting, Proposing, Doing, Alive, Vivid      what progress rests on besides
 use Rattle.std.proofs.Common.{◌≡◌, ℕ, ◌<◌, ◌≤◌, Bool, true, ◌≢◌, List, length, Some, Option}
-use Rattle.sets.specs.Rules.{Rule, Lawful}
+use Rattle.sets.specs.Rules.{Lawful}
 use Rattle.quorum.specs.Wishes.{wishing}
 use Rattle.mail.specs.declared.message.Message.{Message}
 use Rattle.mail.specs.Messages.{place_at, kind_wish, kind_report, kind_propose, kind_prepared, kind_committed}

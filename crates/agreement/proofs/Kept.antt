@@ -5,12 +5,12 @@
 --     stays, back, of_stays         a message that was there is there, and one that is not x was there
 --     certificate, lock, report, proposal, quorum_sent       what was judged so before
 --     decides, holds, votes, locks          what a process holds and has sent, if x is none of that
-use Rattle.std.proofs.Common.{◌≡◌, ℕ, zero, suc, ◌+◌, ◌<◌, ◌≤◌, Bool, true, false, cond, ◌&&◌, ltb, ◌≢◌, ◌⊎◌, List, length, get_or, set, Option, sym, refl, ap, ◌∙◌, subst, inl, inr, arith}
+use Rattle.std.proofs.Common.{◌≡◌, ℕ, zero, suc, ◌+◌, ◌<◌, Bool, true, false, cond, ltb, ◌≢◌, ◌⊎◌, List, length, set, Option, sym, refl, ap, ◌∙◌, subst, inl, inr, arith}
 use Rattle.std.proofs.lemmas.List.{get_or-set_same, get_or-set_other}
 use Rattle.std.proofs.lemmas.Bool.{cases_eq, cases_lt, lt-ltb, le-ltb}
 use Rattle.mail.specs.declared.message.Message.{Message}
-use Rattle.mail.specs.Messages.{blank, silence, proper, posted, place_at, kind_report, kind_propose, kind_prepared, kind_committed}
-use Rattle.mail.specs.Trust.{Vote, Certificate, ValidLock, Report, Carried, Proposal}
+use Rattle.mail.specs.Messages.{blank, silence, proper, posted, place_at, kind_report, kind_prepared, kind_committed}
+use Rattle.mail.specs.Trust.{Vote, Certificate, ValidLock, Report, Proposal}
 use Rattle.protocol.specs.declared.row.Decision.{Decision}
 use Rattle.protocol.specs.declared.row.Phase.{Phase}
 use Rattle.protocol.specs.Settings.{Setting}

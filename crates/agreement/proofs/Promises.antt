@@ -1,12 +1,9 @@
 -- The whole promise, for every accepted opening.
-use Rattle.std.proofs.Common.{◌≡◌, ℕ, Bool, true, List, Ok}
+use Rattle.std.proofs.Common.{ℕ, Bool}
 use Rattle.sets.specs.Rules.{Rule, Lawful}
-use Rattle.mail.specs.declared.message.Message.{Message}
-use Rattle.protocol.specs.declared.row.Row.{Row}
-use Rattle.protocol.specs.declared.call.Call.{Call}
 use Rattle.protocol.specs.Settings.{Setting, State}
 use Rattle.protocol.specs.Runs.{run}
-use Rattle.protocol.specs.Protocol.{Opened, Reached}
+use Rattle.protocol.specs.Protocol.{Opened}
 use Rattle.protocol.specs.Protocol.Reached.{start}
 use Rattle.agreement.specs.Promise.{Promise, Promised}
 use Rattle.agreement.specs.Exactness.{Exact}

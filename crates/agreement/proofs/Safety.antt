@@ -2,12 +2,12 @@
 --     sound_opened, sound_change     the invariant holds at the start, and is kept
 --     safe                           what it gives
 --     reached_safe                   of every reached state
-use Rattle.std.proofs.Common.{◌≡◌, ℕ, zero, suc, ◌+◌, ◌<◌, ◌≤◌, true, false, ◌≢◌, List, length, get_or, set, Some, None, sym, refl, ap, ◌∙◌, subst, inl, inr, arith}
+use Rattle.std.proofs.Common.{◌≡◌, ℕ, zero, suc, true, ◌≢◌, List, get_or, set, Some, None, sym, refl, ap, ◌∙◌, subst, inl, inr, arith}
 use Rattle.std.proofs.lemmas.List.{get_or-set_same, get_or-set_other, length-set}
 use Rattle.std.proofs.lemmas.Bool.{cases_eq, both_ways, le-ltb}
 use Rattle.sets.specs.Sets.{has}
 use Rattle.mail.specs.declared.message.Message.{Message}
-use Rattle.mail.specs.Messages.{posted, silence, kind_wish, kind_report, kind_propose, kind_prepared, kind_committed}
+use Rattle.mail.specs.Messages.{posted, silence, kind_report, kind_prepared, kind_committed}
 use Rattle.protocol.specs.declared.row.Row.{Row}
 use Rattle.protocol.specs.declared.row.Decision.{Decision}
 use Rattle.protocol.specs.declared.moves.Plan.{Plan}

@@ -6,13 +6,13 @@
 --     certified                    behind a quorum of COMMITTED stands a certificate
 --     later_value                  every later certificate names the value of a quorum of COMMITTED
 --     same_quorums, valid_quorum   all quorums of COMMITTED name one value, and it is valid
-use Rattle.std.proofs.Common.{◌≡◌, ℕ, zero, suc, ◌<◌, ◌≤◌, Bool, true, false, not, ◌||◌, eqb, ◌≢◌, List, Some, None, Option, sym, refl, ap, ◌∙◌, subst, ⊎_elim, arith}
+use Rattle.std.proofs.Common.{◌≡◌, ℕ, zero, suc, ◌<◌, ◌≤◌, true, ◌||◌, eqb, ◌≢◌, List, Some, None, sym, refl, ap, ◌∙◌, subst, ⊎_elim, arith}
 use Rattle.std.proofs.lemmas.Bool.{eqb-false, eq-eqb, not-true, cond-true, or_right, cases_order, cases_lt}
 use Rattle.sets.specs.Sets.{has}
 use Rattle.mail.specs.declared.message.Message.{Message}
-use Rattle.mail.specs.Messages.{place_at, held, cited, kind_propose, kind_prepared, kind_committed}
+use Rattle.mail.specs.Messages.{place_at, held, cited, kind_propose, kind_committed}
 use Rattle.mail.specs.Leaders.{leader_of}
-use Rattle.mail.specs.Trust.{Vote, Certificate, Report, Proposal}
+use Rattle.mail.specs.Trust.{Vote, Certificate, Proposal}
 use Rattle.protocol.specs.declared.row.Row.{Row}
 use Rattle.protocol.specs.Settings.{Setting, Runs}
 use Rattle.agreement.specs.Promise.{Of, QuorumSent}

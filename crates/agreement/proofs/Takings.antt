@@ -5,14 +5,14 @@
 --     delivers_is          a delivery is answered exactly when the protocol allows it
 --     delivered_is         the state after it
 --     deliver_way          a delivery makes a change, or is refused
-use Rattle.std.proofs.Common.{◌≡◌, ℕ, zero, suc, ◌≤◌, Bool, true, false, cond, not, ◌&&◌, eqb, ltb, leb, ◌≢◌, List, get_or, Some, None, Ok, Option, sym, refl, ap, ◌∙◌, subst, inl, inr, arith}
+use Rattle.std.proofs.Common.{◌≡◌, ℕ, zero, suc, ◌≤◌, Bool, true, false, cond, not, ◌&&◌, eqb, ltb, leb, ◌≢◌, List, get_or, None, Ok, Option, sym, refl, ap, ◌∙◌, subst, inl, inr, arith}
 use Rattle.std.specs.Option.{option_map}
-use Rattle.std.proofs.lemmas.Bool.{and_parts, ltb-true, ltb-false, lt-ltb, le-ltb, leb-true, eqb-true, eqb-false, eq-eqb, ne_eqb, cases_eq, false≢true}
+use Rattle.std.proofs.lemmas.Bool.{and_parts, ltb-true, ltb-false, lt-ltb, le-ltb, leb-true, eqb-true, eqb-false, eq-eqb, ne_eqb, cases_eq}
 use Rattle.quorum.specs.Firsts.{fault_if, first}
 use Rattle.quorum.proofs.Found.{both_none, none_both, faultless, holds_then}
 use Rattle.mail.specs.declared.message.Message.{Message}
 use Rattle.mail.specs.Messages.{place_at, blank, silence, proper, posted, kind_wish, kind_committed}
-use Rattle.mail.specs.Leaders.{leader_of, leads}
+use Rattle.mail.specs.Leaders.{leads}
 use Rattle.mail.specs.Judging.{report_fault, proposal_fault}
 use Rattle.mail.specs.Trust.{Exactly, Judging}
 use Rattle.mail.proofs.Judged.{judging, leads_is, mapped_none}

@@ -6,7 +6,7 @@
 --     Accepts S s           each call from s is accepted exactly when the relation has its change
 --     Ends S s              moves until one is refused end by a refusal
 --     Exact m valid         this, of every committee over these rules
-use Rattle.std.specs.Prelude.{◌≡◌, ℕ, ◌+◌, ◌<◌, ◌≤◌, Bool, true, false, cond, ◌≢◌, List, length, Some, None, Ok, Err}
+use Rattle.std.specs.Prelude.{◌≡◌, ℕ, ◌+◌, ◌<◌, ◌≤◌, Bool, true, cond, ◌≢◌, List, length, None, Ok, Err}
 use Rattle.sets.specs.Sets.{has}
 use Rattle.sets.specs.Rules.{Rule}
 use Rattle.mail.specs.Trust.{Exactly}
@@ -19,12 +19,12 @@ use Rattle.protocol.specs.declared.call.Posting.{Posting}
 use Rattle.protocol.specs.declared.refusal.Refusal.{Refusal}
 use Rattle.protocol.specs.declared.refusal.Refusal.TheVariants.{NoMove, PostFull}
 use Rattle.protocol.specs.Numbers.{move_number}
-use Rattle.protocol.specs.Settings.{Setting, State, Runs, row, mail, put, send}
-use Rattle.protocol.specs.Plans.{wish, sends, move_of}
+use Rattle.protocol.specs.Settings.{Setting, State, Runs, row, mail, put}
+use Rattle.protocol.specs.Plans.{sends, move_of}
 use Rattle.protocol.specs.Calls.{expire, addressed, post, deliver, made, place_sent, move}
 use Rattle.protocol.specs.Sweeps.{Sweeping, is_full, settle}
 use Rattle.protocol.specs.Runs.{carry_out}
-use Rattle.protocol.specs.Protocol.{Hopeful, Settled, Takes, Can, Room, WellFormed, Step, Change}
+use Rattle.protocol.specs.Protocol.{Hopeful, Settled, Takes, Can, Room, WellFormed, Change}
 use Rattle.quorum.specs.Wishes.{hopeful, settled}
 
 pub record Lent (S : Setting) (s : State) : Type 0 where

@@ -1,3 +1,4 @@
 // Theorems about the protocol.
 #![tactic(auto)]
+
 pub mod claims;

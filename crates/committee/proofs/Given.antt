@@ -4,10 +4,10 @@
 --     given_more               one more delivery
 use Rattle.std.proofs.Common.{◌≡◌, ℕ, suc, ◌+◌, ◌<◌, ◌≤◌, Bool, true, false, cond, ◌&&◌, ◌||◌, eqb, ltb, leb, List, length, get_or, Some, None, Ok, Err, Option, sym, refl, ap, ◌∙◌, add-zero, add-one, arith}
 use Rattle.std.proofs.lemmas.List.{get_or_past}
-use Rattle.std.proofs.lemmas.Bool.{and_parts, eqb-false, ltb-false, lt-ltb, ne_eqb, leb-true, false≢true}
+use Rattle.std.proofs.lemmas.Bool.{and_parts, eqb-false, ltb-false, lt-ltb, leb-true, false≢true}
 use Rattle.quorum.specs.Firsts.{fault_if, first}
 use Rattle.mail.specs.declared.message.Message.{Message}
-use Rattle.mail.specs.Messages.{blank, silence, proper, posted, kind_wish, kind_committed}
+use Rattle.mail.specs.Messages.{blank, proper, posted, kind_wish, kind_committed}
 use Rattle.protocol.specs.declared.row.Row.{Row}
 use Rattle.protocol.specs.declared.refusal.Refusal.{Refusal}
 use Rattle.protocol.specs.declared.refusal.Refusal.TheVariants.{NoMessage, Late, Early}

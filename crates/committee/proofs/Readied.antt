@@ -10,16 +10,15 @@ use Rattle.std.proofs.lemmas.Bool.{ltb-true, false≢true}
 use Rattle.quorum.specs.Firsts.{fault_if, first, answered}
 use Rattle.quorum.proofs.Found.{both_none}
 use Rattle.mail.specs.declared.message.Message.{Message}
-use Rattle.protocol.specs.declared.row.Row.{Row}
 use Rattle.protocol.specs.declared.moves.Move.{Move}
 use Rattle.protocol.specs.declared.moves.Plan.{Plan}
 use Rattle.protocol.specs.declared.refusal.Refusal.{Refusal}
 use Rattle.protocol.specs.declared.refusal.Refusal.TheVariants.{NoMove, PostFull}
-use Rattle.protocol.specs.Settings.{Setting, State, Outcome, row, mail, put, has_room}
+use Rattle.protocol.specs.Settings.{Setting, State, row, mail, put, has_room}
 use Rattle.protocol.specs.Plans.{plan, planned, sends, move_of}
-use Rattle.protocol.specs.Calls.{lent_fault, run_fault, sent, made, place_sent, moving, after, move}
+use Rattle.protocol.specs.Calls.{lent_fault, run_fault, sent, place_sent, moving, move}
 use Rattle.agreement.proofs.Granted.{lent_is, run_is}
-use Rattle.committee.specs.Readiness.{with_room, ready_by, unless, ready}
+use Rattle.committee.specs.Readiness.{ready_by, ready}
 use Rattle.committee.proofs.Refused.{Sendable}
 
 abbrev Next : Type 0

@@ -1,7 +1,7 @@
 -- The turns of a sweep, one by one, and what it answers at the end. Assumes nothing.
 --     turns_more       one turn more
 --     swept_all        all turns: the sweep's answer, and the state after
-use Rattle.std.proofs.Common.{◌≡◌, ℕ, suc, ◌+◌, None, Ok, sym, ap, ◌∙◌, add-one}
+use Rattle.std.proofs.Common.{◌≡◌, ℕ, ◌+◌, None, Ok, sym, ap, ◌∙◌, add-one}
 use Rattle.protocol.specs.declared.call.Swept.{Swept}
 use Rattle.protocol.specs.Settings.{Setting, State}
 use Rattle.protocol.specs.Calls.{lent_fault}

@@ -4,7 +4,7 @@
 --     settle_more      one move more
 --     settle_stops     a move that is refused
 --     settle_all       no move is left
-use Rattle.std.proofs.Common.{◌≡◌, ℕ, suc, ◌+◌, ◌-◌, ◌<◌, Bool, cond, List, Ok, Err, sym, ap, ◌∙◌, arith}
+use Rattle.std.proofs.Common.{◌≡◌, ℕ, suc, ◌+◌, ◌-◌, ◌<◌, Bool, cond, List, Ok, Err, sym, ◌∙◌, arith}
 use Rattle.sets.specs.Rules.{Rule}
 use Rattle.mail.specs.declared.message.Message.{Message}
 use Rattle.protocol.specs.declared.row.Row.{Row}

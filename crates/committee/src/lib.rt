@@ -1,5 +1,6 @@
 // A committee, and the calls on it.
 #![tactic(auto)]
+
 pub mod books;
 mod carry_out;
 pub mod committee;

@@ -14,7 +14,7 @@
 --     ended x t p l            the end of a script: bytes after the last line feed are a line too
 --     stage_of c               a committee of the code as a stage
 --     new_reply r, new_stage r     the reply and the stage that come of a new committee, or of the refusal of one
-use Rattle.std.specs.Prelude.{ℕ, zero, suc, ◌+◌, Bool, cond, List, [], length, replicate, Some, None, Ok, Err, Option, Result, ◌==◌, nat_lt, slice_set}
+use Rattle.std.specs.Prelude.{ℕ, zero, suc, ◌+◌, cond, List, [], length, replicate, Some, None, Ok, Err, Option, Result, ◌==◌, nat_lt, slice_set}
 use Rattle.sets.specs.Weighing.{counting}
 use Rattle.quorum.specs.declared.counting.Counting.{Counting}
 use Rattle.quorum.specs.declared.validity.Framed.{Framed}
@@ -28,7 +28,7 @@ use Rattle.protocol.specs.declared.row.Decision.{Decision}
 use Rattle.protocol.specs.declared.call.Call.{Call}
 use Rattle.protocol.specs.declared.refusal.Refusal.{Refusal}
 use Rattle.protocol.specs.Numbers.{refusal_numbers}
-use Rattle.protocol.specs.Settings.{Setting, Outcome, row}
+use Rattle.protocol.specs.Settings.{Setting, row}
 use Rattle.protocol.specs.Calls.{decision}
 use Rattle.protocol.specs.Openings as openings
 use Rattle.protocol.specs.Openings.{opening}

@@ -2,7 +2,7 @@
 --     kept_enough     it asks for what the line asks for
 use Rattle.std.proofs.Common.{◌≡◌, ℕ, suc, ◌+◌, ◌<◌, ◌≤◌, Bool, true, false, ltb, List, [], ◌∷◌, ◌++◌, length, None, sym, refl, ap, ◌∙◌, append_assoc, append-nil, arith, length-append}
 use Rattle.std.proofs.lemmas.Bool.{lt-ltb, ltb-true, ltb-false}
-use Rattle.script.specs.Lines.{long, longer, kept, request, KeptEnough}
+use Rattle.script.specs.Lines.{longer, kept, request, KeptEnough}
 
 one_more : (bs : List ℕ) (c : ℕ) → length (bs ++ (c ∷ [])) ≡ suc (length bs)
 one_more bs c = simp length-append (omega arith)

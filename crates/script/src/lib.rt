@@ -1,5 +1,6 @@
 // Scripts: what a line asks for, and the text of what is answered.
 #![tactic(auto)]
+
 pub mod answers;
 pub mod claims;
 pub mod lines;

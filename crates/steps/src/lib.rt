@@ -1,5 +1,6 @@
 // What one process does with its row: it takes a message, plans a move and makes it.
 #![tactic(auto)]
+
 mod choosing;
 pub mod perform;
 pub mod plan;

@@ -1,4 +1,3 @@
-use Rattle.std.proofs.Common.{arith}
 use Rattle.quorum.proofs.Found.{none_from_ok, some_from_err, exits, first_more, first_here}
 use Rattle.protocol.specs.Openings.{own_fault}
 use Rattle.committee.proofs.opening.check_owns.Goals as goal

@@ -1,4 +1,3 @@
-use Rattle.std.proofs.Common.{refl}
 use Rattle.quorum.proofs.Found.{none_from_ok, some_from_err}
 use Rattle.committee.specs.Committees.{over, lent}
 use Rattle.committee.proofs.Readied.{by_fault, by_idle, by_full, by_plan}
