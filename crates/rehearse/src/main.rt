@@ -1,5 +1,6 @@
 // Carries out a script of calls: reads lines from standard input, answers each, and says at the end where each run process stands.
 #![tactic(auto)]
+
 use mail::message::{Message, SILENCE};
 use protocol::row::Row;
 use rehearsal::player::Player;

@@ -1,5 +1,6 @@
 // Tests of the crates below, by tables of cases.
 #![tactic(auto)]
+
 #[cfg(test)]
 mod counting;
 #[cfg(test)]
