@@ -3,7 +3,7 @@
 --     none_below, below_none      no fault below n: none at each slot, and back
 --     both_none, none_both        no fault in two tests
 --     faultless, holds_then       no fault: the test fails, or the fact that is asked for holds
---     none_from_ok, ok_value, some_from_err     what an answer tells
+--     none_from_ok, some_from_err     what an answer tells
 --     exits                       what is answered where a `?` leaves
 use Rattle.std.proofs.Common.{◌≡◌, ℕ, zero, suc, ◌+◌, ◌<◌, ◌≤◌, Bool, true, false, not, IsErrAnd, Some, None, Ok, Err, Option, Result, refl, ⊎_elim, add-one, arith}
 use Rattle.std.proofs.lemmas.Result.{err_from_is_err_and}
@@ -13,14 +13,10 @@ use Rattle.quorum.specs.Firsts.{fault_if, first, first_below, answered}
 module _ {F X : Type 0} where
   pub none_from_ok : (o : Option F) (x y : X) → Ok y ≡ answered o x → o ≡ None
   none_from_ok None x y h = refl
-  none_from_ok (Some e) x y h = let z : ◌≡◌ {A = ℕ} 0 1 = cc in absurd (omega arith)
-
-  pub ok_value : (o : Option F) (x y : X) → Ok y ≡ answered o x → y ≡ x
-  ok_value None x y h = cc
-  ok_value (Some e) x y h = let z : ◌≡◌ {A = ℕ} 0 1 = cc in absurd (omega arith)
+  none_from_ok (Some e) x y h = cc
 
   pub some_from_err : (o : Option F) (x : X) (e : F) → Err e ≡ answered o x → o ≡ Some e
-  some_from_err None x e h = let z : ◌≡◌ {A = ℕ} 0 1 = cc in absurd (omega arith)
+  some_from_err None x e h = cc
   some_from_err (Some d) x e h = cc
 
   -- what is returned where a `?` leaves
@@ -30,18 +26,18 @@ module _ {F X : Type 0} where
 module _ {F : Type 0} where
   pub both_none : (a b : Option F) → first a b ≡ None → (a ≡ None) × (b ≡ None)
   both_none None b h = (refl, h)
-  both_none (Some e) b h = let z : ◌≡◌ {A = ℕ} 0 1 = cc in absurd (omega arith)
+  both_none (Some e) b h = cc
 
   pub none_both : (a b : Option F) → a ≡ None → b ≡ None → first a b ≡ None
   none_both a b p q = rw (p, q)
 
   pub faultless : (b : Bool) (e : F) → fault_if b e ≡ None → b ≡ false
   faultless false e h = refl
-  faultless true e h = let z : ◌≡◌ {A = ℕ} 0 1 = cc in absurd (omega arith)
+  faultless true e h = cc
 
   pub holds_then : (b : Bool) (e : F) → (fault_if (not b) e ≡ None → b ≡ true) × (b ≡ true → fault_if (not b) e ≡ None)
   holds_then true e = ((λ _. refl), (λ _. refl))
-  holds_then false e = ((λ h. let z : ◌≡◌ {A = ℕ} 0 1 = cc in absurd (omega arith)), (λ h. absurd (false≢true h)))
+  holds_then false e = ((λ h. cc), (λ h. absurd (false≢true h)))
 
   pub first_more : (f : ℕ → Option F) (j : ℕ) → first_below f j ≡ None → f j ≡ None → first_below f (j + 1) ≡ None
   first_more f j p q = rw (add-one, p, q)

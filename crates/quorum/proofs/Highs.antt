@@ -1,13 +1,16 @@
 -- The highest wish whose set passes is the highest of all views whose set passes.
 --     highest_is       for any test of sets that disregards members from n up and refuses the empty set
 --     views_are        for the two questions of a lawful rule
-use Rattle.std.proofs.Common.{◌≡◌, ℕ, zero, suc, ◌+◌, ◌-◌, ◌<◌, ◌≤◌, Bool, true, false, not, leb, ◌⊎◌, List, [], ◌∷◌, get_or, Decides, sym, refl, ap, ◌∙◌, subst, inl, inr, ⊎_elim, add-one, arith}
+--     highest_more     the loop's step; highest_all, its end
+use Rattle.std.proofs.Common.{◌≡◌, ℕ, zero, suc, ◌+◌, ◌-◌, ◌<◌, ◌≤◌, Bool, true, false, not, leb, ◌⊎◌, List, [], ◌∷◌, length, get_or, min, Decides, sym, refl, ap, ◌∙◌, subst, inl, inr, ⊎_elim, add-one, arith}
 use Rattle.std.proofs.lemmas.Bool.{cases_lt, cases_eq, cases_Bool, lt-leb, both_ways, not_from_true}
+use Rattle.std.proofs.lemmas.List.{get_or_past}
 use Rattle.std.proofs.lemmas.Bool.Decides.{nat_tests, same_from_decides}
 use Rattle.sets.specs.Sets.{has, Same}
 use Rattle.sets.specs.Rules.{Rule, Lawful, Blocking}
 use Rattle.sets.proofs.Members.{has_sift, has_none}
 use Rattle.sets.proofs.Grounded.{blocking_is, grounded}
+use Rattle.quorum.proofs.Numbered.{up_to_end}
 use Rattle.quorum.specs.Tallies.{passing}
 use Rattle.quorum.specs.Wishes.{wishing, raised, highest, hopeful, settled, Highest, Views}
 
@@ -139,6 +142,16 @@ module _ (q : ℕ → Bool) (xs : List ℕ) (k h w s r : ℕ) (b : Bool) (so_far
   pub highest_more : r ≡ highest q xs (k + 1)
   unfolding highest
   highest_more = rw (add-one k, next_is, so_far, asked, set_is, wish_is)
+
+-- the loop ends with the list, since a wish of 0 raises nothing
+module _ (q : ℕ → Bool) (xs : List ℕ) where
+  unraised : (h : ℕ) (b : Bool) → raised h 0 b ≡ h
+  unraised h true = omega arith
+  unraised h false = refl
+
+  pub highest_all : (n : ℕ) → highest q xs n ≡ highest q xs (min n (length xs))
+  unfolding highest
+  highest_all n = sym (up_to_end (highest q xs) (length xs) (λ k g. rw (get_or_past xs k 0 g, unraised)) n)
 
 pub asks_blocking : (m : Rule) → Lawful m → (s : ℕ) (b : Bool) → Decides b (Blocking m s) → b ≡ not (m.tolerated s)
 asks_blocking m laws s b d = same_from_decides b (not (m.tolerated s)) d (blocking_is m laws s)

@@ -1,4 +1,5 @@
 pub mod Found
+pub mod Numbered
 pub mod Loads
 pub mod Questions
 pub mod Listing

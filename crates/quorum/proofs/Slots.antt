@@ -20,7 +20,7 @@ module _ {E : Type 0} (p : E → Bool) where
   passing_past (x ∷ xs) zero h = absurd (omega arith)
   passing_past (x ∷ xs) (suc i) h = passing_past xs i (omega arith)
 
-  pub tally_all : (xs : List E) (i : ℕ) → i ≡ min (length xs) 32 → sift i (passing p xs) ≡ tallied p xs
+  pub tally_all : (xs : List E) (i : ℕ) → i ≡ min 32 (length xs) → sift i (passing p xs) ≡ tallied p xs
   tally_all xs i e =
       let le : i ≤ 32 = omega arith in
       let wide = pow_mono le in

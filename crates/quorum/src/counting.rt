@@ -8,7 +8,7 @@ use crate::faults::RuleFault;
 use crate::rules::QuorumRule;
 use sets::process_set::ProcessSet;
 
-#[derive(Clone, Copy)]
+#[derive(Clone, Copy, PartialEq, Eq, Debug)]
 pub struct Counting {
     f: u8,
     ghost few: { f ≤ 10 },
@@ -30,8 +30,9 @@ impl QuorumRule for Counting {
 
     ghost lawful = { λ rule. counting_lawful rule.f rule.few };
 
+    #[tactic(auto, unfolding(sets::specs::Weighing::counting))]
     fn size(&self) -> u8 {
-        size_for(self.f)
+        3 * self.f + 1
     }
 
     fn is_quorum(&self, set: ProcessSet) -> bool {
@@ -43,13 +44,7 @@ impl QuorumRule for Counting {
     }
 }
 
-fn size_for(f: u8) -> u8
-    requires { f ≤ 10 }
-    ensures { result ≡ 3 * f + 1 }
-{
-    3 * f + 1
-}
-
+// Each comparison of a rule stands in a function of its own, so that its contract is about nothing else.
 fn is_enough(count: u32, f: u8) -> bool
     ensures { result ≡ nat_le (2 * f + 1) count }
 {

@@ -7,8 +7,6 @@ use sets::process_set::ProcessSet;
 pub trait QuorumRule {
     ghost meaning: { Self → Rule };
 
-    ghost lawful: { (rule : Self) → Lawful (meaning rule) };
-
     // How many processes there are, from 1 to 32.
     fn size(&self) -> u8
         ensures { result ≡ (meaning self.now).size };
@@ -19,4 +17,6 @@ pub trait QuorumRule {
     // Whether no tolerated set contains `set`.
     fn is_blocking(&self, set: ProcessSet) -> bool
         ensures { Decides result (Blocking (meaning self.now) set.bits) };
+
+    ghost lawful: { (rule : Self) → Lawful (meaning rule) };
 }

@@ -1,5 +1,5 @@
 // Which values may be proposed.
-ghost use Rattle.std.specs.Prelude.{◌≡◌, ℕ, Bool, ◌==◌};
+ghost use Rattle.std.specs.Prelude.{◌≡◌, ℕ, Bool};
 ghost use Rattle.quorum.specs.Validity.{listed, framed};
 
 pub trait ValidityRule {
@@ -10,7 +10,7 @@ pub trait ValidityRule {
 }
 
 // The values of a lent list.
-#[derive(Clone, Copy)]
+#[derive(Clone, Copy, PartialEq, Eq, Debug)]
 pub struct Allowed<'a> {
     pub values: &'a [u64],
 }
@@ -18,24 +18,14 @@ pub struct Allowed<'a> {
 impl<'a> ValidityRule for Allowed<'a> {
     ghost valid = { λ rule. listed rule.values.now };
 
+    #[tactic(auto, using(crate::proofs::Listing::listed_any))]
     fn is_valid(&self, value: u64) -> bool {
-        for allowed in self.values {
-            if is_same(*allowed, value) {
-                return true;
-            }
-        }
-        false
+        self.values.contains(&value)
     }
 }
 
-fn is_same(allowed: u64, value: u64) -> bool
-    ensures { result ≡ (allowed == value) }
-{
-    allowed == value
-}
-
 // The values whose upper 32 bits are the frame and whose lower 32 bits are from 1 to the limit.
-#[derive(Clone, Copy)]
+#[derive(Clone, Copy, PartialEq, Eq, Debug)]
 pub struct Framed {
     pub frame: u32,
     pub limit: u32,

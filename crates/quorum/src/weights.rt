@@ -1,5 +1,5 @@
 // The rule by weights, in a lent list.
-ghost use Rattle.std.specs.Prelude.{◌≡◌, ℕ, ◌*◌, ◌≤◌, [], ◌∷◌, length, if◌then◌else◌, nat_le, nat_lt};
+ghost use Rattle.std.specs.Prelude.{◌≡◌, ℕ, ◌*◌, ◌≤◌, [], ◌∷◌, length, nat_le, nat_lt, Ok, Err, Some, None};
 ghost use Rattle.sets.specs.Weighing.{weight};
 ghost use Rattle.sets.proofs.Laws.{weighing_lawful};
 ghost use Rattle.quorum.specs.Firsts.{answered, kept};
@@ -7,9 +7,10 @@ ghost use Rattle.quorum.specs.WeightList.{weight_at, total_of, weights_rule, wei
 
 use crate::faults::RuleFault;
 use crate::rules::QuorumRule;
+use crate::tally::processes;
 use sets::process_set::ProcessSet;
 
-#[derive(Clone, Copy)]
+#[derive(Clone, Copy, PartialEq, Eq, Debug)]
 pub struct Weights<'a> {
     list: &'a [u32],
     total: u32,
@@ -21,11 +22,30 @@ pub struct Weights<'a> {
 }
 
 impl<'a> Weights<'a> {
+    // The rule by these weights, or the first fault of the list.
+    #[tactic(auto, unfolding(crate::specs::WeightList::weights_fault, sets::specs::Weighing::weigh))]
+    pub fn new(list: &'a [u32]) -> Result<Weights<'a>, RuleFault>
+        ensures { elim result [ Ok rule ↦ (weights_fault list.now ≡ None) × (rule.list.now ≡ list.now) | Err fault ↦ weights_fault list.now ≡ Some fault ] }
+    {
+        check_count(list.len())?;
+        let mut total = 0;
+        for (process, weight) in processes().zip(list) {
+            check_weight(*weight, process)?;
+            total += *weight;
+        }
+        check_total(total)?;
+        Ok(Weights { list, total })
+    }
+
     // Four processes of weight 1 each: a rule to begin with.
+    #[tactic(auto, unfolding(sets::specs::Weighing::weigh))]
     pub fn four_equal() -> Weights<'a>
         ensures { result.list.now ≡ 1 ∷ 1 ∷ 1 ∷ 1 ∷ [] }
     {
-        Weights::of(four_ones(), 4)
+        Weights {
+            list: &[1, 1, 1, 1],
+            total: 4,
+        }
     }
 
     // Puts the rule of another list in the place of this one. A refusal leaves this one.
@@ -33,20 +53,22 @@ impl<'a> Weights<'a> {
         ensures answer { result ≡ answered (weights_fault list.now) tt }
         ensures after { self.new.list.now ≡ kept (weights_fault list.now) self.old.list.now list.now }
     {
-        let total = checked_total(list)?;
-        *self = Weights::of(list, total);
+        *self = Weights::new(list)?;
         Ok(())
     }
 
-    fn of(list: &'a [u32], total: u32) -> Weights<'a>
-        requires some { 1 ≤ length list.now }
-        requires few { length list.now ≤ 32 }
-        requires light { (j : ℕ) → weight_at list.now j ≤ 1000000 }
-        requires whole { total ≡ total_of list.now }
-        requires weighty { 1 ≤ total_of list.now }
-        ensures { result.list.now ≡ list.now }
+    // The weight of the members of `set`.
+    #[tactic(auto, unfolding(sets::specs::Weighing::weigh))]
+    fn weigh(&self, set: ProcessSet) -> u32
+        ensures { result ≡ weight (length self.now.list.now) (weight_at self.now.list.now) set.bits }
     {
-        Weights { list, total }
+        let mut sum = 0;
+        for (process, weight) in processes().zip(self.list) {
+            if set.contains(process) {
+                sum += *weight;
+            }
+        }
+        sum
     }
 }
 
@@ -55,36 +77,18 @@ impl<'a> QuorumRule for Weights<'a> {
 
     ghost lawful = { λ rule. weighing_lawful (length rule.list.now) (weight_at rule.list.now) rule.some rule.few rule.weighty };
 
+    #[tactic(auto, unfolding(sets::specs::Weighing::weighing))]
     fn size(&self) -> u8 {
-        size_of_list(self.list)
+        self.list.len() as u8
     }
 
     fn is_quorum(&self, set: ProcessSet) -> bool {
-        is_over_two_thirds(weigh(self.list, set), self.total)
+        is_over_two_thirds(self.weigh(set), self.total)
     }
 
     fn is_blocking(&self, set: ProcessSet) -> bool {
-        is_a_third(weigh(self.list, set), self.total)
+        is_a_third(self.weigh(set), self.total)
     }
-}
-
-fn four_ones() -> &'static [u32]
-    ensures { result.now ≡ 1 ∷ 1 ∷ 1 ∷ 1 ∷ [] }
-{
-    &[1, 1, 1, 1]
-}
-
-// The total weight of a list that makes a rule.
-fn checked_total(list: &[u32]) -> Result<u32, RuleFault>
-    ensures { result ≡ answered (weights_fault list.now) (total_of list.now) }
-{
-    check_count(list.len())?;
-    for j in 0..list.len() {
-        check_weight(list[j], j as u8)?;
-    }
-    let total = weigh(list, ProcessSet::empty().others(32));
-    check_total(total)?;
-    Ok(total)
 }
 
 fn check_count(count: usize) -> Result<(), RuleFault>
@@ -112,32 +116,6 @@ fn check_total(total: u32) -> Result<(), RuleFault>
         return Err(RuleFault::NoWeight);
     }
     Ok(())
-}
-
-fn size_of_list(list: &[u32]) -> u8
-    requires { length list.now ≤ 32 }
-    ensures { result ≡ length list.now }
-{
-    list.len() as u8
-}
-
-// The weight of the members of `set`.
-fn weigh(list: &[u32], set: ProcessSet) -> u32
-    requires few { length list.now ≤ 32 }
-    requires light { (j : ℕ) → weight_at list.now j ≤ 1000000 }
-    ensures { result ≡ weight (length list.now) (weight_at list.now) set.bits }
-{
-    let mut sum = 0;
-    for j in 0..list.len() {
-        sum += share(list[j], set.contains(j as u8));
-    }
-    sum
-}
-
-fn share(weight: u32, counts: bool) -> u32
-    ensures { result ≡ (if counts then weight else 0) }
-{
-    if counts { weight } else { 0 }
 }
 
 fn is_over_two_thirds(weight: u32, total: u32) -> bool

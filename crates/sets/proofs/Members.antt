@@ -3,12 +3,14 @@
 --     sift_lt, sift_same      sift n p is below 2 ^ n; equal tests give equal sets
 --     same_set                sets with the same members are equal
 --     sift_has, below_whole   the members of s below n are s % 2 ^ n, and s itself where s is below 2 ^ n
+--     below_all, has_high     from 32 up: all members of s, and no member
 --     others_is               the processes below n that are no members of s, by subtraction
 use Rattle.std.proofs.Common.{◌≡◌, ℕ, zero, suc, ◌+◌, ◌-◌, ◌*◌, ◌/◌, ◌%◌, ◌^◌, ◌<◌, ◌≤◌, min, Bool, true, false, cond, not, eqb, ◌⊎◌, sym, refl, ap, ◌∙◌, subst, inl, inr, ⊎_elim, add-zero, mod-lt, mod-eq_of_lt, add_comm, one-mul, pow-suc, zero-mul, arith, pow_pos, pow_mono, pow-add}
 use native.Mathlib.Nat.{div-eq_of_lt, add-mul-div_right, add-mul-mod_self_right}
 use lib.Pow.{mod-pow-add}
 use Rattle.std.proofs.lemmas.Bool.{cases_lt}
 use Rattle.sets.specs.Sets.{has, sift, below, others}
+use Rattle.sets.proofs.Sums.{not_step}
 
 pub digit_cases : (d : ℕ) → d < 2 → (d ≡ 0) ⊎ (d ≡ 1)
 digit_cases zero h = inl refl
@@ -87,12 +89,14 @@ sift_past n p j h = has_past (sift n p) j (let a = sift_lt n p in let b = pow_mo
 pub below_whole : (n s : ℕ) → s < 2 ^ n → below n s ≡ s
 below_whole n s h = sift_has n s ∙ mod-eq_of_lt h
 
+pub below_all : (n s : ℕ) → 32 ≤ n → s < 2 ^ 32 → below n s ≡ s
+below_all n s h lt = let wide = pow_mono h in below_whole n s (omega arith)
+
+pub has_high : (s j : ℕ) → 32 ≤ j → s < 2 ^ 32 → has s j ≡ false
+has_high s j h lt = let wide = pow_mono h in has_past s j (omega arith)
+
 pub same_set : (n s t : ℕ) → s < 2 ^ n → t < 2 ^ n → ((j : ℕ) → j < n → has s j ≡ has t j) → s ≡ t
 same_set n s t hs ht h = sym (below_whole n s hs) ∙ sift_same n (has s) (has t) h ∙ below_whole n t ht
-
-not_step : (b : Bool) (x : ℕ) → cond b x 0 + cond (not b) x 0 ≡ x
-not_step true x = omega arith
-not_step false x = omega arith
 
 sift_not : (n : ℕ) (p : ℕ → Bool) → suc (sift n p + sift n (λ j. not (p j))) ≡ 2 ^ n
 unfolding sift

@@ -20,7 +20,7 @@ weigh_mono (suc n) w p q h =
     let ih = weigh_mono n w p q (λ j k. h j (omega arith)) in
     let st = mono_step (p n) (q n) (w n) (h n (omega arith)) in omega arith
 
-not_step : (a : Bool) (x : ℕ) → cond a x 0 + cond (not a) x 0 ≡ x
+pub not_step : (a : Bool) (x : ℕ) → cond a x 0 + cond (not a) x 0 ≡ x
 not_step true x = omega arith
 not_step false x = omega arith
 

@@ -1,16 +1,14 @@
 -- One member more: what `insert` computes, and the step of a loop that collects members upward. Assumes nothing.
+--     below_is                   the members below n < 32, by a remainder
 --     insert_is, insert_past     the bit set, below 32; nothing, from 32 up
 --     sift_more, sift_less       the processes below i + 1 that pass, where i does and where it does not
-use Rattle.std.proofs.Common.{◌≡◌, ℕ, ◌+◌, ◌/◌, ◌%◌, ◌^◌, ◌<◌, ◌≤◌, Bool, true, false, ◌||◌, eqb, sym, refl, ap, ◌∙◌, ⊎_elim, add-zero, mod-lt, add-one, arith, pow_pos, pow_mono}
+use Rattle.std.proofs.Common.{◌≡◌, ℕ, ◌+◌, ◌*◌, ◌/◌, ◌%◌, ◌^◌, ◌<◌, ◌≤◌, Bool, true, false, ◌||◌, eqb, sym, refl, ap, ◌∙◌, ⊎_elim, add-zero, mod-lt, mod-eq_of_lt, one-mul, add-one, arith, pow_pos, pow_mono}
 use lib.Pow.{pow-lt}
 use lib.Bits.{bit_or, or_shr, or_mod, or_lt}
+use Rattle.std.proofs.Math.Bool.{or-false}
 use Rattle.std.proofs.lemmas.Bool.{eq-eqb, ne_eqb, cases_eq, cases_lt, or_right}
-use Rattle.sets.specs.Sets.{has, sift, joined}
-use Rattle.sets.proofs.Members.{digit_cases, has_past, has_sift, sift_past, sift_lt, same_set}
-
-or_false : (b : Bool) → (b || false) ≡ b
-or_false true = refl
-or_false false = refl
+use Rattle.sets.specs.Sets.{has, sift, joined, below}
+use Rattle.sets.proofs.Members.{digit_cases, sift_has, has_past, has_sift, sift_past, sift_lt, same_set}
 
 or_digit : (a b : ℕ) → a < 2 → b < 2 → eqb (bit_or a b) 1 ≡ (eqb a 1 || eqb b 1)
 or_digit a b ha hb =
@@ -38,22 +36,30 @@ has_alone i j =
     (λ (h : i + 1 ≤ j). sift_past (i + 1) (λ k. eqb k i) j h ∙ sym (ne_eqb j i (λ e. omega arith)))
     (cases_lt j (i + 1))
 
-pub insert_is : (s j : ℕ) → s < 2 ^ 32 → j < 32 → bit_or s (2 ^ j) ≡ joined s j
+-- `1 << j` in 32 bits
+one_bit : (j : ℕ) → j < 32 → 1 * 2 ^ j % 4294967296 ≡ 2 ^ j
+one_bit j h = rw (one-mul, mod-eq_of_lt (pow-lt h))
+
+pub below_is : (n s : ℕ) → n < 32 → below n s ≡ s % (1 * 2 ^ n % 4294967296)
+below_is n s h = rw (one_bit n h) (sift_has n s)
+
+pub insert_is : (s j : ℕ) → s < 2 ^ 32 → j < 32 → joined s j ≡ bit_or s (1 * 2 ^ j % 4294967296)
 insert_is s j hs hj =
-    same_set 32 (bit_or s (2 ^ j)) (joined s j) (or_lt 32 s (2 ^ j) hs (pow-lt hj)) (sift_lt 32 (λ k. has s k || eqb k j))
-    (λ k h. has_or s (2 ^ j) k ∙ ap (λ (b : Bool). has s k || b) (has_alone j k) ∙ sym (has_sift 32 (λ i. has s i || eqb i j) k h))
+    rw (one_bit j hj)
+    (same_set 32 (joined s j) (bit_or s (2 ^ j)) (sift_lt 32 (λ k. has s k || eqb k j)) (or_lt 32 s (2 ^ j) hs (pow-lt hj))
+    (λ k h. has_sift 32 (λ i. has s i || eqb i j) k h ∙ sym (has_or s (2 ^ j) k ∙ ap (λ (b : Bool). has s k || b) (has_alone j k))))
 
 pub insert_past : (s j : ℕ) → s < 2 ^ 32 → 32 ≤ j → s ≡ joined s j
 insert_past s j hs hj =
     same_set 32 s (joined s j) hs (sift_lt 32 (λ k. has s k || eqb k j))
-    (λ k h. sym (or_false (has s k)) ∙ ap (λ (b : Bool). has s k || b) (sym (ne_eqb k j (λ e. omega arith))) ∙ sym (has_sift 32 (λ i. has s i || eqb i j) k h))
+    (λ k h. sym (or-false (has s k)) ∙ ap (λ (b : Bool). has s k || b) (sym (ne_eqb k j (λ e. omega arith))) ∙ sym (has_sift 32 (λ i. has s i || eqb i j) k h))
 
 pub sift_more : (i : ℕ) (p : ℕ → Bool) → i < 32 → p i ≡ true → joined (sift i p) i ≡ sift (i + 1) p
 sift_more i p h e =
     same_set 32 (joined (sift i p) i) (sift (i + 1) p) (sift_lt 32 (λ k. has (sift i p) k || eqb k i)) (let a = sift_lt (i + 1) p in let le : i + 1 ≤ 32 = omega arith in let b = pow_mono le in omega arith)
     (λ k h'. has_sift 32 (λ j. has (sift i p) j || eqb j i) k h' ∙
     ⊎_elim (λ (q : k ≡ i). or_right (has (sift i p) k) (eqb k i) (eq-eqb k i q) ∙ sym (has_sift (i + 1) p k (omega arith) ∙ ap p q ∙ e))
-    (λ (q : k ≡ i → ⊥). rw (ne_eqb k i q, or_false (has (sift i p) k)) (kept k q))
+    (λ (q : k ≡ i → ⊥). rw (ne_eqb k i q, or-false (has (sift i p) k)) (kept k q))
     (cases_eq k i))
   where
     kept : (k : ℕ) → (k ≡ i → ⊥) → has (sift i p) k ≡ has (sift (i + 1) p) k

@@ -16,19 +16,21 @@ impl ProcessSet {
         ProcessSet { bits: 0 }
     }
 
+    #[tactic(auto, unfolding(crate::specs::Sets::has), using(crate::proofs::Members::has_high))]
     pub fn contains(self, process: u8) -> bool
         ensures { result ≡ has self.bits process }
     {
-        process < 32 && is_set(self.bits, process)
+        process < 32 && (self.bits >> process) % 2 == 1
     }
 
     // With `process` too. One from 32 up is left out.
+    #[tactic(auto, using(crate::proofs::Unions::insert_is, crate::proofs::Unions::insert_past))]
     pub fn insert(self, process: u8) -> Self
         ensures { result.bits ≡ joined self.bits process }
     {
         if process < 32 {
             ProcessSet {
-                bits: marked(self.bits, process),
+                bits: self.bits | (1 << process),
             }
         } else {
             self
@@ -36,12 +38,13 @@ impl ProcessSet {
     }
 
     // The members below n.
+    #[tactic(auto, using(crate::proofs::Unions::below_is, crate::proofs::Members::below_all))]
     pub fn below(self, n: u8) -> Self
         ensures { result.bits ≡ below n self.bits }
     {
         if n < 32 {
             ProcessSet {
-                bits: low_bits(self.bits, n),
+                bits: self.bits % (1 << n),
             }
         } else {
             self
@@ -49,53 +52,18 @@ impl ProcessSet {
     }
 
     // The processes below n that are no members, of those below 32.
+    #[tactic(auto, using(crate::proofs::Members::others_is))]
     pub fn others(self, n: u8) -> Self
         ensures { result.bits ≡ others (min n 32) self.bits }
     {
-        ProcessSet {
-            bits: turned(self.bits),
-        }
-        .below(n)
+        ProcessSet { bits: !self.bits }.below(n)
     }
 
     // How many members below n there are.
+    #[tactic(auto, using(crate::proofs::Counts::ones_below))]
     pub fn count(self, n: u8) -> u32
         ensures { result ≡ count n self.bits }
     {
-        count_bits(self.below(n).bits)
+        self.below(n).bits.count_ones()
     }
-}
-
-// The operations on bits.
-fn is_set(bits: u32, process: u8) -> bool
-    requires { process < 32 }
-    ensures { result ≡ bit bits process }
-{
-    (bits >> process) % 2 == 1
-}
-
-fn marked(bits: u32, process: u8) -> u32
-    requires { process < 32 }
-    ensures { result ≡ bit_or bits (2 ^ process) }
-{
-    bits | (1 << process)
-}
-
-fn low_bits(bits: u32, n: u8) -> u32
-    requires { n < 32 }
-    ensures { result ≡ bits % 2 ^ n }
-{
-    bits % (1 << n)
-}
-
-fn turned(bits: u32) -> u32
-    ensures { result ≡ 2 ^ 32 - 1 - bits }
-{
-    !bits
-}
-
-fn count_bits(bits: u32) -> u32
-    ensures { result ≡ count_ones bits }
-{
-    bits.count_ones()
 }

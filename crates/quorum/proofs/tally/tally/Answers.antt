@@ -1,25 +1,22 @@
-use Rattle.std.proofs.Common.{◌<◌, length, ◌∙◌, arith}
-use Rattle.sets.specs.Sets.{sift}
+use Rattle.std.proofs.Common.{length}
+use Rattle.std.proofs.lemmas.List.{length_push}
+use Rattle.quorum.proofs.Numbered.{turn, ended}
 use Rattle.quorum.proofs.Slots.{tally_more, tally_less, tally_all}
 use Rattle.quorum.proofs.tally.tally.Goals as goal
-use Rattle.quorum.proofs.tally.tally.Goals.{then-passes, else-passes}
 
-pub loop-j-init : goal.loop-j-init
-unfolding sift
-loop-j-init g c = c.empty-passing.ensures
+pub loop-process-preserved-then-passes : goal.loop-process-preserved-then-passes
+loop-process-preserved-then-passes g c =
+    let at = turn 32 c.args.entries.now c.loop-process.yielded _ _ c.next.new.self _ (cc) (cc) c.loop-process.yielded_by _ c.in-Some.is c.next.ensures.steps in
+    rw (length_push c.loop-process.yielded (c.in-Some.process, c.in-Some.entry), c.insert-passing.ensures, at.0)
+    (tally_more (g.T.EntryTest.accepts c.args.test.now) c.args.entries.now (length c.loop-process.yielded) _ _ at.1.short (at.1.entry_is _) c.passes.ensures _ c.loop-process.invariant at.1.low c.if-passes.true)
 
-pub loop-j-preserved : goal.loop-j-preserved
-loop-j-preserved g c =
-    let p = g.T.EntryTest.accepts c.args.test.now in
-    let xs = c.args.entries.now in
-    let j = c.loop-j.j in
-    let short : j < length xs = omega arith in
-    let read = c.index-entries-j.is in
-    let tested = c.passes.ensures in
-    elim c.if-passes.branch [
-      | then-passes w ↦ rw w.passing-is (w.insert-passing.ensures ∙ tally_more p xs j _ _ short read tested c.loop-j.passing.bits c.loop-j.invariant (omega arith) w.if-passes.true)
-      | else-passes w ↦ rw w.passing-is (tally_less p xs j _ _ short read tested c.loop-j.passing.bits c.loop-j.invariant w.if-passes.false)
-    ]
+pub loop-process-preserved : goal.loop-process-preserved
+loop-process-preserved g c =
+    let at = turn 32 c.args.entries.now c.loop-process.yielded _ _ c.next.new.self _ (cc) (cc) c.loop-process.yielded_by _ c.in-Some.is c.next.ensures.steps in
+    rw (length_push c.loop-process.yielded (c.in-Some.process, c.in-Some.entry))
+    (tally_less (g.T.EntryTest.accepts c.args.test.now) c.args.entries.now (length c.loop-process.yielded) _ _ at.1.short (at.1.entry_is _) c.passes.ensures _ c.loop-process.invariant c.if-passes.false)
 
 pub returns : goal.returns
-returns g c = c.loop-j.invariant ∙ tally_all (g.T.EntryTest.accepts c.args.test.now) c.args.entries.now c.loop-j.j (omega arith)
+returns g c =
+    let end = ended 32 c.args.entries.now c.loop-process.yielded _ _ c.next.new.self _ (cc) (cc) c.loop-process.yielded_by c.in-None.is c.next.ensures.steps in
+    rw c.loop-process.invariant (tally_all (g.T.EntryTest.accepts c.args.test.now) c.args.entries.now (length c.loop-process.yielded) end)

@@ -1,9 +1,12 @@
-use Rattle.std.proofs.Common.{◌≡◌, not}
+use Rattle.std.proofs.Common.{◌≡◌, ◌+◌, not, length}
 use Rattle.quorum.specs.Wishes.{highest}
 use Rattle.quorum.proofs.views.views.Given as goal
 
-abbrev pub invariant-loop-process : goal.invariant-loop-process
-invariant-loop-process g l =
+abbrev pub invariant-loop-view : goal.invariant-loop-view
+invariant-loop-view g l =
     let m = g.Q.QuorumRule.meaning l.rule in
-    (l.hopeful ≡ highest (λ s. not (m.tolerated s)) l.wishes l.process)
-    × (l.settled ≡ highest m.quorum l.wishes l.process)
+    let k = length l.yielded in
+    (k + l.view-iterator.n ≡ m.size)
+    × (k + length l.view-iterator.iter.rest.now ≡ length l.wishes)
+    × (l.hopeful ≡ highest (λ s. not (m.tolerated s)) l.wishes k)
+    × (l.settled ≡ highest m.quorum l.wishes k)
