@@ -1,4 +1,5 @@
 pub mod Places
+pub mod Slots
 pub mod Votes
 pub mod Citations
 pub mod Locks

@@ -1,4 +1,6 @@
 pub mod Messages
+pub mod Kinds
+pub mod Readings
 pub mod Leaders
 pub mod Numbers
 pub mod Judging

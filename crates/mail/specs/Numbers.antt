@@ -1,18 +1,14 @@
 -- The four numbers of each fault of mail: number, layer (1 certificate, 2 report, 3 proposal), place and slot (32 unless one is named).
 -- A fault of a lower layer keeps its numbers. Assumes nothing.
---     four_numbers n l k j     number n, layer l, place k and slot j
 --     certificate_numbers e, report_numbers e, proposal_numbers e     the numbers of the fault e
-use Rattle.std.specs.Prelude.{ℕ}
 use Rattle.quorum.specs.declared.faults.FaultNumbers.{FaultNumbers}
+use Rattle.quorum.specs.Numbers.{four_numbers}
 use Rattle.mail.specs.declared.faults.CertificateFault.{CertificateFault}
 use Rattle.mail.specs.declared.faults.CertificateFault.TheVariants.{NoQuorum, WrongMessage}
 use Rattle.mail.specs.declared.faults.ReportFault.{ReportFault}
 use Rattle.mail.specs.declared.faults.ReportFault.TheVariants.{LockNotBelow, InCertificate}
 use Rattle.mail.specs.declared.faults.ProposalFault.{ProposalFault}
 use Rattle.mail.specs.declared.faults.ProposalFault.TheVariants.{NotLeader, NotValid, TooFewReports, NotReport, InReport, NotHighest}
-
-abbrev pub four_numbers : ℕ → ℕ → ℕ → ℕ → FaultNumbers
-four_numbers n l k j = record { number = n; layer = l; place = k; slot = j }
 
 abbrev pub certificate_numbers : CertificateFault → FaultNumbers
 certificate_numbers (NoQuorum k) = four_numbers 20 1 k 32

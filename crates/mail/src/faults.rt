@@ -1,13 +1,13 @@
 // What is wrong with a certificate, a report, a proposal. Each fault names the place of the message that was judged.
 ghost use Rattle.std.specs.Prelude.{◌≡◌, not};
 ghost use Rattle.quorum.specs.Firsts.{answered, fault_if};
-ghost use Rattle.mail.specs.Numbers.{certificate_numbers, four_numbers, proposal_numbers, report_numbers};
+ghost use Rattle.mail.specs.Numbers.{certificate_numbers, proposal_numbers, report_numbers};
 ghost use Rattle.mail.specs.declared.faults.ReportFault.TheVariants.{InCertificate};
 ghost use Rattle.mail.specs.declared.faults.ProposalFault.TheVariants.{InReport};
 
 use quorum::faults::FaultNumbers;
 
-#[derive(Clone, Copy)]
+#[derive(Clone, Copy, PartialEq, Eq, Debug)]
 pub enum CertificateFault {
     // The cited processes are no quorum.
     NoQuorum { place: u16 },
@@ -15,14 +15,14 @@ pub enum CertificateFault {
     WrongMessage { place: u16, slot: u8 },
 }
 
-#[derive(Clone, Copy)]
+#[derive(Clone, Copy, PartialEq, Eq, Debug)]
 pub enum ReportFault {
     // The locked view is not below the view.
     LockNotBelow { place: u16 },
     InCertificate(CertificateFault),
 }
 
-#[derive(Clone, Copy)]
+#[derive(Clone, Copy, PartialEq, Eq, Debug)]
 pub enum ProposalFault {
     // The sender does not lead the view.
     NotLeader { place: u16 },
@@ -36,6 +36,7 @@ pub enum ProposalFault {
     NotHighest { place: u16 },
 }
 
+// By hand, as the others are: a derived `From` has no contract, and the contract of a `?` needs it.
 impl From<CertificateFault> for ReportFault {
     ghost from_gives = { λ e r. r ≡ InCertificate e };
 
@@ -57,8 +58,8 @@ impl CertificateFault {
         ensures { result ≡ certificate_numbers self }
     {
         match self {
-            CertificateFault::NoQuorum { place } => four(20, 1, place, 32),
-            CertificateFault::WrongMessage { place, slot } => four(21, 1, place, slot),
+            CertificateFault::NoQuorum { place } => FaultNumbers::new(20, 1, place, 32),
+            CertificateFault::WrongMessage { place, slot } => FaultNumbers::new(21, 1, place, slot),
         }
     }
 }
@@ -68,7 +69,7 @@ impl ReportFault {
         ensures { result ≡ report_numbers self }
     {
         match self {
-            ReportFault::LockNotBelow { place } => four(22, 2, place, 32),
+            ReportFault::LockNotBelow { place } => FaultNumbers::new(22, 2, place, 32),
             ReportFault::InCertificate(fault) => fault.numbers(),
         }
     }
@@ -79,12 +80,12 @@ impl ProposalFault {
         ensures { result ≡ proposal_numbers self }
     {
         match self {
-            ProposalFault::NotLeader { place } => four(23, 3, place, 32),
-            ProposalFault::NotValid { place } => four(24, 3, place, 32),
-            ProposalFault::TooFewReports { place } => four(25, 3, place, 32),
-            ProposalFault::NotReport { place, slot } => four(26, 3, place, slot),
+            ProposalFault::NotLeader { place } => FaultNumbers::new(23, 3, place, 32),
+            ProposalFault::NotValid { place } => FaultNumbers::new(24, 3, place, 32),
+            ProposalFault::TooFewReports { place } => FaultNumbers::new(25, 3, place, 32),
+            ProposalFault::NotReport { place, slot } => FaultNumbers::new(26, 3, place, slot),
             ProposalFault::InReport(fault) => fault.numbers(),
-            ProposalFault::NotHighest { place } => four(27, 3, place, 32),
+            ProposalFault::NotHighest { place } => FaultNumbers::new(27, 3, place, 32),
         }
     }
 }
@@ -94,15 +95,4 @@ pub fn check<F: Copy>(holds: bool, fault: F) -> Result<(), F>
     ensures { result ≡ answered (fault_if (not holds) fault) tt }
 {
     if holds { Ok(()) } else { Err(fault) }
-}
-
-fn four(number: u8, layer: u8, place: u16, slot: u8) -> FaultNumbers
-    ensures { result ≡ four_numbers number layer place slot }
-{
-    FaultNumbers {
-        number,
-        layer,
-        place,
-        slot,
-    }
 }

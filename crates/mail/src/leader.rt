@@ -15,8 +15,5 @@ pub fn leader(size: u8, view: u32) -> Option<u8>
 pub fn is_leader(size: u8, view: u32, process: u8) -> bool
     ensures { result ≡ leads size view process }
 {
-    match leader(size, view) {
-        Some(leader) => leader == process,
-        None => false,
-    }
+    leader(size, view) == Some(process)
 }

@@ -5,6 +5,7 @@ pub mod certificate;
 pub mod claims;
 pub mod faults;
 pub mod held;
+pub mod kind;
 pub mod leader;
 pub mod message;
 pub mod place;

@@ -2,21 +2,13 @@
 ghost use Rattle.std.specs.Prelude.{◌≡◌};
 ghost use Rattle.mail.specs.Messages.{has_lock, is_report, is_vote, kind_prepared, proper};
 
-// The kinds of messages.
-pub const WISH: u8 = 1;
-// The report, by which a process that takes up a view tells its lock.
-pub const NEWLEADER: u8 = 2;
+use crate::kind::Kind;
 
-pub const PROPOSE: u8 = 3;
-
-pub const PREPARED: u8 = 4;
-
-pub const COMMITTED: u8 = 5;
-
-#[derive(Clone, Copy)]
+#[derive(Clone, Copy, PartialEq, Eq, Debug)]
 #[repr(C)]
 pub struct Message {
     pub sender: u8,
+    // A number, since a foreign process may post any; the kinds' numbers are 1 to 5.
     pub kind: u8,
     pub view: u32,
     pub value: u64,
@@ -41,21 +33,24 @@ impl Message {
     pub fn is_proper(&self, size: u8) -> bool
         ensures { result ≡ proper size self.now }
     {
-        self.sender < size && self.kind >= WISH && self.kind <= COMMITTED
+        self.sender < size && Kind::try_from(self.kind).is_ok()
     }
 
     // Whether it is `sender`'s PREPARED of this view and value.
     pub fn is_prepared(&self, sender: u8, view: u32, value: u64) -> bool
         ensures { result ≡ is_vote kind_prepared sender view value self.now }
     {
-        self.kind == PREPARED && self.sender == sender && self.view == view && self.value == value
+        self.kind == Kind::Prepared.number()
+            && self.sender == sender
+            && self.view == view
+            && self.value == value
     }
 
     // Whether it is `sender`'s report of this view.
     pub fn is_report(&self, sender: u8, view: u32) -> bool
         ensures { result ≡ is_report sender view self.now }
     {
-        self.kind == NEWLEADER && self.sender == sender && self.view == view
+        self.kind == Kind::NewLeader.number() && self.sender == sender && self.view == view
     }
 
     // Whether it has this locked view and value.

@@ -1,26 +1,36 @@
-// What a place of the post holds.
-ghost use Rattle.std.specs.Prelude.{◌≡◌, ◌&&◌, length, nat_le};
-ghost use Rattle.mail.specs.Messages.{posted};
+// What a place of a post reads as.
+ghost use Rattle.std.specs.Prelude.{◌≡◌, ◌-◌, ◌&&◌, None, if◌then◌else◌, nat_le, slice_get};
+ghost use Rattle.std.specs.Option.{option_copied};
+ghost use Rattle.mail.specs.Readings.{read};
 
 use crate::message::{Message, SILENCE};
 
-// The message at `place` of a post with `count` messages, among `size` processes; SILENCE where there is none.
-pub fn message_at(post: &[Message], count: u16, size: u8, place: u16) -> &Message
-    ensures { result.now ≡ posted size post.now count place }
-{
-    if !is_filled(post.len(), count, place) {
-        return &SILENCE;
-    }
-    let message = &post[place as usize - 1];
-    if message.is_proper(size) {
-        message
-    } else {
-        &SILENCE
-    }
+// A post as it is read: the first `count` messages are posted, among `size` processes.
+#[derive(Clone, Copy)]
+pub struct Reading<'a> {
+    pub post: &'a [Message],
+    pub count: u16,
+    pub size: u8,
 }
 
-fn is_filled(length: usize, count: u16, place: u16) -> bool
-    ensures { result ≡ (nat_le 1 place && (nat_le place count && nat_le place length)) }
-{
-    place >= 1 && place <= count && place as usize <= length
+impl<'a> Reading<'a> {
+    // The message at `place`; SILENCE where there is none.
+    pub fn at(&self, place: u16) -> &'a Message
+        ensures { result.now ≡ read self.now place }
+    {
+        match self.posted(place) {
+            Some(message) if message.is_proper(self.size) => message,
+            _ => &SILENCE,
+        }
+    }
+
+    // What stands at `place`, if anything was posted there.
+    fn posted(&self, place: u16) -> Option<&'a Message>
+        ensures { option_copied result ≡ (if nat_le 1 place && nat_le place self.now.count then slice_get self.now.post.now (place - 1) else None) }
+    {
+        if place > self.count {
+            return None;
+        }
+        self.post.get((place as usize).checked_sub(1)?)
+    }
 }

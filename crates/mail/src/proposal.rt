@@ -1,14 +1,15 @@
 // Safe proposals.
-ghost use Rattle.std.specs.Prelude.{◌≡◌, ◌<◌, ◌≤◌, max};
+ghost use Rattle.std.specs.Prelude.{◌≡◌, ◌≤◌, max};
 ghost use Rattle.quorum.specs.Firsts.{answered};
-ghost use Rattle.mail.specs.Messages.{place_at, posted};
+ghost use Rattle.mail.specs.Messages.{place_at};
+ghost use Rattle.mail.specs.Readings.{read};
 ghost use Rattle.mail.specs.Judging.{offer_fault, proposal_fault, citation_fault, top_lock, carries, is_highest};
 
 use crate::faults::{ProposalFault, check};
 use crate::held::Held;
 use crate::leader::is_leader;
 use crate::message::Message;
-use crate::place::message_at;
+use crate::place::Reading;
 use crate::report::judge_report;
 use quorum::rules::QuorumRule;
 use quorum::tally::tally;
@@ -18,20 +19,19 @@ use quorum::validity::ValidityRule;
 pub fn judge_proposal<Q: QuorumRule, V: ValidityRule>(
     rule: &Q,
     validity: &V,
-    post: &[Message],
-    count: u16,
+    reading: &Reading<'_>,
     proposal: &Message,
     place: u16,
 ) -> Result<(), ProposalFault>
-    ensures { result ≡ answered (proposal_fault (Q.meaning rule.now) (V.valid validity.now) (posted (Q.meaning rule.now).size post.now count) proposal.now place) tt }
+    ensures { result ≡ answered (proposal_fault (Q.meaning rule.now) (V.valid validity.now) (read reading.now) proposal.now place) tt }
 {
     check_offer(rule, validity, proposal, place)?;
     let size = rule.size();
-    for slot in 0..size {
-        check_citation(rule, post, count, proposal, place, slot)?;
+    for (slot, cited) in (0..size).zip(&proposal.citations) {
+        check_citation(rule, reading, proposal, place, slot, *cited)?;
     }
     check(
-        is_highest(post, count, size, proposal),
+        is_highest(reading, size, proposal),
         ProposalFault::NotHighest { place },
     )
 }
@@ -62,60 +62,44 @@ fn check_offer<Q: QuorumRule, V: ValidityRule>(
 // Judges what `proposal` cites for the process of this slot.
 fn check_citation<Q: QuorumRule>(
     rule: &Q,
-    post: &[Message],
-    count: u16,
+    reading: &Reading<'_>,
     proposal: &Message,
     place: u16,
     slot: u8,
+    cited: u16,
 ) -> Result<(), ProposalFault>
-    requires { slot < 32 }
-    ensures { result ≡ answered (citation_fault (Q.meaning rule.now) (posted (Q.meaning rule.now).size post.now count) proposal.now place slot) tt }
+    requires { cited ≡ place_at proposal.now.citations slot }
+    ensures { result ≡ answered (citation_fault (Q.meaning rule.now) (read reading.now) proposal.now place slot) tt }
 {
-    let cited = proposal.citations[slot as usize];
     if cited == 0 {
         return Ok(());
     }
-    let report = message_at(post, count, rule.size(), cited);
+    let report = reading.at(cited);
     check(
         report.is_report(slot, proposal.view),
         ProposalFault::NotReport { place, slot },
     )?;
-    judge_report(rule, post, count, report, cited)?;
+    judge_report(rule, reading, report, cited)?;
     Ok(())
 }
 
 // Whether no cited report is locked, or one with the highest locked view has the proposal's value.
-fn is_highest(post: &[Message], count: u16, size: u8, proposal: &Message) -> bool
-    requires { size ≤ 32 }
-    ensures { result ≡ is_highest size (posted size post.now count) proposal.now }
+fn is_highest(reading: &Reading<'_>, size: u8, proposal: &Message) -> bool
+    ensures { result ≡ is_highest size (read reading.now) proposal.now }
 {
-    let top = highest_lock(post, count, size, &proposal.citations);
-    top == 0 || is_carried(post, count, size, &proposal.citations, top, proposal.value)
+    let top = highest_lock(reading, size, &proposal.citations);
+    top == 0 || is_carried(reading, size, &proposal.citations, top, proposal.value)
 }
 
-// The highest locked view of the cited reports.
-pub fn highest_lock(post: &[Message], count: u16, size: u8, citations: &[u16; 32]) -> u32
-    ensures { result ≡ top_lock (posted size post.now count) citations.now size }
+// The highest locked view of the first `size` cited reports.
+pub fn highest_lock(reading: &Reading<'_>, size: u8, citations: &[u16; 32]) -> u32
+    ensures { result ≡ top_lock (read reading.now) citations.now size }
 {
     let mut top = 0;
-    for slot in 0..size {
-        top = higher(
-            top,
-            message_at(post, count, size, citation(citations, slot)).locked,
-        );
+    for cited in citations.iter().take(size as usize) {
+        top = higher(top, reading.at(*cited).locked);
     }
     top
-}
-
-// The place that is cited for the process of this slot, or 0.
-fn citation(citations: &[u16], slot: u8) -> u16
-    ensures { result ≡ place_at citations.now slot }
-{
-    if (slot as usize) < citations.len() {
-        citations[slot as usize]
-    } else {
-        0
-    }
 }
 
 fn higher(a: u32, b: u32) -> u32
@@ -124,22 +108,19 @@ fn higher(a: u32, b: u32) -> u32
     a.max(b)
 }
 
-// Whether a cited report has this locked view and value.
+// Whether one of the first `size` cited reports has this locked view and value. A slot past the list has no report, and so no lock.
 fn is_carried(
-    post: &[Message],
-    count: u16,
+    reading: &Reading<'_>,
     size: u8,
     citations: &[u16; 32],
     locked: u32,
     value: u64,
 ) -> bool
-    requires { size ≤ 32 }
-    ensures { result ≡ carries (posted size post.now count) citations.now locked value size }
+    requires { 1 ≤ locked }
+    ensures { result ≡ carries (read reading.now) citations.now locked value size }
 {
-    let mut found = false;
-    for slot in 0..size {
-        found = found
-            || message_at(post, count, size, citations[slot as usize]).has_lock(locked, value);
-    }
-    found
+    citations
+        .iter()
+        .take(size as usize)
+        .any(|cited| reading.at(*cited).has_lock(locked, value))
 }

@@ -1,29 +1,30 @@
 // Valid reports.
 ghost use Rattle.std.specs.Prelude.{◌≡◌};
 ghost use Rattle.quorum.specs.Firsts.{answered};
-ghost use Rattle.mail.specs.Messages.{posted};
+ghost use Rattle.mail.specs.Readings.{read};
 ghost use Rattle.mail.specs.Judging.{report_fault};
 
 use crate::certificate::judge_certificate;
-use crate::faults::ReportFault;
+use crate::faults::{ReportFault, check};
 use crate::message::Message;
+use crate::place::Reading;
 use quorum::rules::QuorumRule;
 
 // Judges `report`, which stands at `place`.
 pub fn judge_report<Q: QuorumRule>(
     rule: &Q,
-    post: &[Message],
-    count: u16,
+    reading: &Reading<'_>,
     report: &Message,
     place: u16,
 ) -> Result<(), ReportFault>
-    ensures { result ≡ answered (report_fault (Q.meaning rule.now) (posted (Q.meaning rule.now).size post.now count) report.now place) tt }
+    ensures { result ≡ answered (report_fault (Q.meaning rule.now) (read reading.now) report.now place) tt }
 {
-    if report.locked >= report.view {
-        return Err(ReportFault::LockNotBelow { place });
-    }
+    check(
+        report.locked < report.view,
+        ReportFault::LockNotBelow { place },
+    )?;
     if report.locked != 0 {
-        judge_certificate(rule, post, count, report, place)?;
+        judge_certificate(rule, reading, report, place)?;
     }
     Ok(())
 }
