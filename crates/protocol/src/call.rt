@@ -6,8 +6,9 @@ use crate::moves::Move;
 use mail::message::Message;
 
 // A message to be posted by a foreign process, without its sender.
-#[derive(Clone, Copy)]
+#[derive(Clone, Copy, PartialEq, Eq, Debug)]
 pub struct Posting {
+    // A number, as in a message.
     pub kind: u8,
     pub view: u32,
     pub value: u64,
@@ -16,7 +17,7 @@ pub struct Posting {
 }
 
 impl Posting {
-    // The message, from this sender.
+    // The message, from this sender. Field by field: a message is no posting with a sender before it, since its layout is that of C.
     pub fn from(&self, sender: u8) -> Message
         ensures { result ≡ addressed sender self.now }
     {
@@ -31,7 +32,7 @@ impl Posting {
     }
 }
 
-#[derive(Clone, Copy)]
+#[derive(Clone, Copy, PartialEq, Eq, Debug)]
 pub enum Call {
     Expire { process: u8 },
     Post { process: u8, posting: Posting },
@@ -41,7 +42,7 @@ pub enum Call {
 }
 
 // What a sweep did.
-#[derive(Clone, Copy)]
+#[derive(Clone, Copy, Default, PartialEq, Eq, Debug)]
 pub struct Swept {
     // Deliveries that were accepted.
     pub accepted: u32,
@@ -50,12 +51,12 @@ pub struct Swept {
     pub stopped: u8,
 }
 
-#[derive(Clone, Copy)]
+#[derive(Clone, Copy, PartialEq, Eq, Debug)]
 pub enum Answer {
     // A message was sent or posted, at this place.
     Sent { place: u16 },
     Delivered,
-    // The move made, and the place of what it sent; 0 for a decision.
+    // The move made, and the place of what it sent; for a decision 0, which is no place in an answer as in a message.
     Moved { made: Move, place: u16 },
     Swept(Swept),
 }

@@ -3,33 +3,26 @@ ghost use Rattle.std.specs.Prelude.{◌≡◌};
 ghost use Rattle.protocol.specs.Numbers.{move_number};
 ghost use Rattle.protocol.specs.Plans.{move_of};
 
-#[derive(Clone, Copy)]
+#[derive(Clone, Copy, PartialEq, Eq, Debug)]
 pub enum Move {
-    Relay,
-    TakeUp,
-    Propose,
-    Vote,
-    Lock,
-    Decide,
+    Relay = 1,
+    TakeUp = 2,
+    Propose = 3,
+    Vote = 4,
+    Lock = 5,
+    Decide = 6,
 }
 
 impl Move {
     pub fn number(self) -> u8
         ensures { result ≡ move_number self }
     {
-        match self {
-            Move::Relay => 1,
-            Move::TakeUp => 2,
-            Move::Propose => 3,
-            Move::Vote => 4,
-            Move::Lock => 5,
-            Move::Decide => 6,
-        }
+        self as u8
     }
 }
 
 // A move with the numbers that it needs, before it is made.
-#[derive(Clone, Copy)]
+#[derive(Clone, Copy, PartialEq, Eq, Debug)]
 pub enum Plan {
     Relay { view: u32 },
     TakeUp { view: u32 },
@@ -45,10 +38,10 @@ impl Plan {
         ensures { result ≡ move_of self }
     {
         match self {
-            Plan::Relay { view: _ } => Move::Relay,
-            Plan::TakeUp { view: _ } => Move::TakeUp,
-            Plan::Propose { value: _ } => Move::Propose,
-            Plan::Vote { value: _ } => Move::Vote,
+            Plan::Relay { .. } => Move::Relay,
+            Plan::TakeUp { .. } => Move::TakeUp,
+            Plan::Propose { .. } => Move::Propose,
+            Plan::Vote { .. } => Move::Vote,
             Plan::Lock => Move::Lock,
             Plan::Decide => Move::Decide,
         }

@@ -1,13 +1,13 @@
 // Why a call is refused.
 ghost use Rattle.std.specs.Prelude.{◌≡◌};
 ghost use Rattle.protocol.specs.Sweeps.{is_full};
-ghost use Rattle.protocol.specs.Numbers.{refusal_numbers, at_call};
+ghost use Rattle.protocol.specs.Numbers.{refusal_numbers};
 ghost use Rattle.protocol.specs.declared.refusal.Refusal.TheVariants.{InProposal, InReport};
 
 use mail::faults::{ProposalFault, ReportFault};
 use quorum::faults::FaultNumbers;
 
-#[derive(Clone, Copy)]
+#[derive(Clone, Copy, PartialEq, Eq, Debug)]
 pub enum Refusal {
     // There are fewer own values than processes.
     FewValues,
@@ -56,47 +56,43 @@ impl From<ProposalFault> for Refusal {
     }
 }
 
+impl From<Refusal> for FaultNumbers {
+    ghost from_gives = { λ e r. r ≡ refusal_numbers e };
+
+    fn from(refusal: Refusal) -> FaultNumbers {
+        refusal.numbers()
+    }
+}
+
 impl Refusal {
     pub fn numbers(self) -> FaultNumbers
         ensures { result ≡ refusal_numbers self }
     {
         match self {
-            Refusal::FewValues => call_fault(1, 0, 32),
-            Refusal::ShortTable => call_fault(2, 0, 32),
-            Refusal::PostLength => call_fault(3, 0, 32),
-            Refusal::OwnNotValid { slot } => call_fault(4, 0, slot),
-            Refusal::NoProcess => call_fault(5, 0, 32),
-            Refusal::Foreign => call_fault(6, 0, 32),
-            Refusal::Run => call_fault(6, 0, 32),
-            Refusal::PostFull => call_fault(7, 0, 32),
-            Refusal::NoMessage => call_fault(8, 0, 32),
-            Refusal::NotWellFormed => call_fault(9, 0, 32),
-            Refusal::Late { place } => call_fault(10, place, 32),
-            Refusal::Early { place } => call_fault(11, place, 32),
-            Refusal::Held { place } => call_fault(12, place, 32),
-            Refusal::NoMove => call_fault(13, 0, 32),
-            Refusal::LastView => call_fault(14, 0, 32),
-            Refusal::NotLeader { place } => call_fault(15, place, 32),
+            Refusal::FewValues => FaultNumbers::new(1, 4, 0, 32),
+            Refusal::ShortTable => FaultNumbers::new(2, 4, 0, 32),
+            Refusal::PostLength => FaultNumbers::new(3, 4, 0, 32),
+            Refusal::OwnNotValid { slot } => FaultNumbers::new(4, 4, 0, slot),
+            Refusal::NoProcess => FaultNumbers::new(5, 4, 0, 32),
+            Refusal::Foreign | Refusal::Run => FaultNumbers::new(6, 4, 0, 32),
+            Refusal::PostFull => FaultNumbers::new(7, 4, 0, 32),
+            Refusal::NoMessage => FaultNumbers::new(8, 4, 0, 32),
+            Refusal::NotWellFormed => FaultNumbers::new(9, 4, 0, 32),
+            Refusal::Late { place } => FaultNumbers::new(10, 4, place, 32),
+            Refusal::Early { place } => FaultNumbers::new(11, 4, place, 32),
+            Refusal::Held { place } => FaultNumbers::new(12, 4, place, 32),
+            Refusal::NoMove => FaultNumbers::new(13, 4, 0, 32),
+            Refusal::LastView => FaultNumbers::new(14, 4, 0, 32),
+            Refusal::NotLeader { place } => FaultNumbers::new(15, 4, place, 32),
             Refusal::InReport(fault) => fault.numbers(),
             Refusal::InProposal(fault) => fault.numbers(),
         }
     }
 
-    // Whether the post was full, which has the number 7.
+    // Whether the post was full.
     pub fn is_full_post(self) -> bool
         ensures { result ≡ is_full self }
     {
-        self.numbers().number == 7
-    }
-}
-
-fn call_fault(number: u8, place: u16, slot: u8) -> FaultNumbers
-    ensures { result ≡ at_call number place slot }
-{
-    FaultNumbers {
-        number,
-        layer: 4,
-        place,
-        slot,
+        self == Refusal::PostFull
     }
 }
