@@ -1,3 +1,4 @@
-pub mod Senders
+pub mod Kindless
 pub mod LockValues
 pub mod Planning
+pub mod Backings

@@ -1,39 +1,32 @@
 // What a move does to the row of the process that makes it.
-ghost use Rattle.std.specs.Prelude.{◌≡◌, ◌≤◌, if◌then◌else◌};
-ghost use Rattle.mail.specs.Messages.{posted};
+ghost use Rattle.std.specs.Prelude.{◌≡◌, if◌then◌else◌};
+ghost use Rattle.mail.specs.Readings.{read};
 ghost use Rattle.protocol.specs.Plans.{backing, backs, planned};
 
 use crate::rows::new_ballot;
-use mail::message::Message;
-use mail::place::message_at;
+use mail::held::HeldValue;
+use mail::place::Reading;
 use protocol::moves::Plan;
 use protocol::row::{Decision, Lock, Phase, Row};
-use quorum::rules::QuorumRule;
+use quorum::tally::EntryTest;
 
 // Makes the move, in the row.
-pub fn perform<Q: QuorumRule>(rule: &Q, plan: Plan, post: &[Message], count: u16, row: &mut Row)
-    ensures { row.new ≡ planned (Q.meaning rule.now).size (posted (Q.meaning rule.now).size post.now count) row.old plan }
+pub fn perform(plan: Plan, reading: &Reading<'_>, row: &mut Row)
+    ensures { row.new ≡ planned reading.now.size (read reading.now) row.old plan }
 {
     match plan {
         Plan::Relay { view } => row.relayed = view,
         Plan::TakeUp { view } => row.ballot = new_ballot(view),
-        Plan::Propose { value: _ } => row.ballot.proposed = true,
+        Plan::Propose { .. } => row.ballot.proposed = true,
         Plan::Vote { value } => {
             row.ballot.phase = Phase::Voted;
             row.ballot.voted = value;
         }
         Plan::Lock => {
-            let size = rule.size();
             row.lock = Lock {
                 view: row.ballot.view,
                 value: row.ballot.voted,
-                certificate: backing_places(
-                    post,
-                    count,
-                    size,
-                    &row.ballot.prepared,
-                    row.ballot.voted,
-                ),
+                certificate: backing_places(reading, &row.ballot.prepared, row.ballot.voted),
             };
             row.ballot.phase = Phase::Locked;
         }
@@ -47,24 +40,24 @@ pub fn perform<Q: QuorumRule>(rule: &Q, plan: Plan, post: &[Message], count: u16
 }
 
 // The held places whose messages have this value.
-fn backing_places(post: &[Message], count: u16, size: u8, held: &[u16; 32], value: u64) -> [u16; 32]
-    requires { size ≤ 32 }
-    ensures { result ≡ backing (posted size post.now count) held.now value size }
+fn backing_places(reading: &Reading<'_>, held: &[u16; 32], value: u64) -> [u16; 32]
+    ensures { result ≡ backing (read reading.now) held.now value reading.now.size }
 {
     let mut places = [0; 32];
-    for slot in 0..size {
-        places[slot as usize] = backing_place(post, count, size, held[slot as usize], value);
+    // By slot: what a walk by `iter_mut().zip(..)` writes is not known after it.
+    for (slot, place) in (0..reading.size).zip(held) {
+        places[slot as usize] = backing_place(reading, *place, value);
     }
     places
 }
 
 // The place, if it is held and its message has this value; otherwise 0.
-fn backing_place(post: &[Message], count: u16, size: u8, place: u16, value: u64) -> u16
-    ensures { result ≡ (if backs (posted size post.now count) value place then place else 0) }
+fn backing_place(reading: &Reading<'_>, place: u16, value: u64) -> u16
+    ensures { result ≡ (if backs (read reading.now) value place then place else 0) }
 {
-    if place != 0 && message_at(post, count, size, place).value == value {
-        place
-    } else {
-        0
-    }
+    let backs = HeldValue {
+        reading: *reading,
+        value,
+    };
+    if backs.passes(place) { place } else { 0 }
 }

@@ -1,8 +1,10 @@
 // What a process sends.
 ghost use Rattle.std.specs.Prelude.{◌≡◌};
+ghost use Rattle.mail.specs.Kinds.{kind_number};
 ghost use Rattle.protocol.specs.Plans.{offer, report, sends, vote, wish};
 
-use mail::message::{COMMITTED, Message, NEWLEADER, PREPARED, PROPOSE, WISH};
+use mail::kind::Kind;
+use mail::message::{Message, SILENCE};
 use protocol::moves::Plan;
 use protocol::row::{Lock, Row};
 
@@ -14,8 +16,8 @@ pub fn message_of(plan: Plan, process: u8, row: &Row) -> Option<Message>
         Plan::Relay { view } => Some(wish(process, view)),
         Plan::TakeUp { view } => Some(report(process, view, &row.lock)),
         Plan::Propose { value } => Some(offer(process, row.ballot.view, value, row.ballot.reports)),
-        Plan::Vote { value } => Some(vote(PREPARED, process, row.ballot.view, value)),
-        Plan::Lock => Some(vote(COMMITTED, process, row.ballot.view, row.ballot.voted)),
+        Plan::Vote { value } => Some(vote(Kind::Prepared, process, row.ballot.view, value)),
+        Plan::Lock => Some(vote(Kind::Committed, process, row.ballot.view, row.ballot.voted)),
         Plan::Decide => None,
     }
 }
@@ -23,28 +25,27 @@ pub fn message_of(plan: Plan, process: u8, row: &Row) -> Option<Message>
 pub fn wish(sender: u8, view: u32) -> Message
     ensures { result ≡ wish sender view }
 {
-    Message {
-        sender,
-        kind: WISH,
-        view,
-        value: 0,
-        locked: 0,
-        citations: [0; 32],
-    }
+    vote(Kind::Wish, sender, view, 0)
 }
 
 // The report of this lock.
 fn report(sender: u8, view: u32, lock: &Lock) -> Message
     ensures { result ≡ report sender view lock.now }
 {
-    let locked = lock.view != 0;
-    Message {
+    let unlocked = Message {
         sender,
-        kind: NEWLEADER,
+        kind: Kind::NewLeader.number(),
         view,
-        value: if locked { lock.value } else { 0 },
+        ..SILENCE
+    };
+    if lock.view == 0 {
+        return unlocked;
+    }
+    Message {
+        value: lock.value,
         locked: lock.view,
-        citations: if locked { lock.certificate } else { [0; 32] },
+        citations: lock.certificate,
+        ..unlocked
     }
 }
 
@@ -53,23 +54,23 @@ fn offer(sender: u8, view: u32, value: u64, citations: [u16; 32]) -> Message
 {
     Message {
         sender,
-        kind: PROPOSE,
+        kind: Kind::Propose.number(),
         view,
         value,
-        locked: 0,
         citations,
+        ..SILENCE
     }
 }
 
-fn vote(kind: u8, sender: u8, view: u32, value: u64) -> Message
-    ensures { result ≡ vote kind sender view value }
+// A message that has no lock and cites nothing.
+fn vote(kind: Kind, sender: u8, view: u32, value: u64) -> Message
+    ensures { result ≡ vote (kind_number kind) sender view value }
 {
     Message {
         sender,
-        kind,
+        kind: kind.number(),
         view,
         value,
-        locked: 0,
-        citations: [0; 32],
+        ..SILENCE
     }
 }

@@ -1,17 +1,19 @@
-use Rattle.std.proofs.Common.{◌≡◌, sym, arith}
+use Rattle.std.proofs.Common.{◌≡◌, length, sym, ap, ◌∙◌, arith}
 use Rattle.mail.specs.Messages.{posted}
-use Rattle.steps.proofs.LockValues.{value_here, value_later}
+use Rattle.mail.specs.Readings.{read}
+use Rattle.quorum.proofs.Numbered.{part_turn, part_ended}
+use Rattle.steps.proofs.LockValues.{value_here, value_part}
 use Rattle.steps.proofs.choosing.locked_value.Goals as goal
 
 pub returns-then-report-locked : goal.returns-then-report-locked
 returns-then-report-locked c =
-    value_here (posted c.args.size c.args.post.now c.args.count) c.args.reports.now c.args.locked c.loop-slot.slot c.message_at-report.result.now c.message_at-report.ensures c.loop-slot.invariant c.args.size c.loop-slot-test.true c.if-report-locked.true
-
-pub loop-slot-preserved : goal.loop-slot-preserved
-loop-slot-preserved c =
-    value_later (posted c.args.size c.args.post.now c.args.count) c.args.reports.now c.args.locked c.loop-slot.slot c.message_at-report.result.now c.message_at-report.ensures c.loop-slot.invariant c.if-report-locked.false
+    let w = part_turn c.args.size c.args.reports.now c.loop-held.yielded _ _ c.next.new.self _ (cc) (cc) c.loop-held.yielded_by _ c.in-Some.is c.next.ensures.steps in
+    value_here (read c.args.reading.now) c.args.reports.now c.args.locked (length c.loop-held.yielded) c.at-report.result.now (c.at-report.ensures ∙ ap (read c.args.reading.now) (w.entry_is 0)) c.loop-held.invariant c.args.size w.low c.if-report-locked.true
 
 pub returns : goal.returns
+unfolding posted
 returns c =
-    let e : c.loop-slot.slot ≡ c.args.size = omega arith in
-    sym (rw e at c.loop-slot.invariant)
+    let xs = c.args.reports.now in
+    let n = part_ended c.args.size xs c.loop-held.yielded _ _ c.next.new.self _ (cc) (cc) c.loop-held.yielded_by c.in-None.is c.next.ensures.steps in
+    let unlocked : (read c.args.reading.now 0).locked ≡ c.args.locked → ⊥ = λ e. omega (arith, e, c.requires) in
+    sym (rw n at c.loop-held.invariant) ∙ value_part (read c.args.reading.now) xs c.args.locked unlocked c.args.size

@@ -1,7 +1,7 @@
-use Rattle.std.proofs.Common.{◌≡◌}
-use Rattle.mail.specs.Messages.{posted}
+use Rattle.std.proofs.Common.{◌≡◌, length}
+use Rattle.mail.specs.Readings.{read}
 use Rattle.protocol.specs.Plans.{backing}
 use Rattle.steps.proofs.perform.backing_places.Given as goal
 
 abbrev pub invariant-loop-slot : goal.invariant-loop-slot
-invariant-loop-slot l = l.places ≡ backing (posted l.size l.post l.count) l.held l.value l.slot
+invariant-loop-slot l = l.places ≡ backing (read l.reading) l.held l.value (length l.yielded)

@@ -1,39 +1,33 @@
-use Rattle.std.proofs.Common.{rules}
+use Rattle.std.proofs.Common.{◌≡◌, false, ◌&&◌, leb, rules}
+use Rattle.mail.specs.Messages.{kind_wish, kind_committed}
 use Rattle.protocol.specs.Calls.{taking_fault}
-use Rattle.steps.proofs.Senders.{sender_lawful}
+use Rattle.steps.proofs.Kindless.{no_kind}
 use Rattle.steps.proofs.taking.check_giving.Goals as goal
 
-pub bounds-row-sender : goal.bounds-row-sender
-bounds-row-sender g c = sender_lawful _ (g.Q.QuorumRule.lawful c.args.rule.now) _ c.size.ensures c.args.post.now c.args.count c.args.place _ c.message_at-message.ensures
+pub returns-in-Err : goal.returns-in-Err
+returns-in-Err g c =
+    let r = c.args.reading.now in
+    let x = c.at-message.result.now in
+    let f : (leb kind_wish x.kind && leb x.kind kind_committed) ≡ false = search rules in
+    let none = no_kind r.size r.post.now r.count c.args.place (rw c.at-message.ensures at f) in
+    search rules
 
-pub check_report-requires : goal.check_report-requires
-check_report-requires g c = sender_lawful _ (g.Q.QuorumRule.lawful c.args.rule.now) _ c.size.ensures c.args.post.now c.args.count c.args.place _ c.message_at-message.ensures
-
-pub bounds-row-sender-in-4 : goal.bounds-row-sender-in-4
-bounds-row-sender-in-4 g c = sender_lawful _ (g.Q.QuorumRule.lawful c.args.rule.now) _ c.size.ensures c.args.post.now c.args.count c.args.place _ c.message_at-message.ensures
-
-pub bounds-row-sender-in_default : goal.bounds-row-sender-in_default
-bounds-row-sender-in_default g c = sender_lawful _ (g.Q.QuorumRule.lawful c.args.rule.now) _ c.size.ensures c.args.post.now c.args.count c.args.place _ c.message_at-message.ensures
-
-pub returns-in-1 : goal.returns-in-1
+pub returns-in-Ok-Wish : goal.returns-in-Ok-Wish
 unfolding taking_fault
-returns-in-1 g c = search rules
+returns-in-Ok-Wish g c = search rules
 
-pub returns-in-2 : goal.returns-in-2
+pub returns-in-Ok-NewLeader : goal.returns-in-Ok-NewLeader
 unfolding taking_fault
-returns-in-2 g c = search rules
+returns-in-Ok-NewLeader g c = search rules
 
-pub returns-in-3 : goal.returns-in-3
+pub returns-in-Ok-Propose : goal.returns-in-Ok-Propose
 unfolding taking_fault
-returns-in-3 g c = search rules
+returns-in-Ok-Propose g c = search rules
 
-pub returns-in-4 : goal.returns-in-4
+pub returns-in-Ok-Prepared : goal.returns-in-Ok-Prepared
 unfolding taking_fault
-returns-in-4 g c = search rules
+returns-in-Ok-Prepared g c = search rules
 
-pub returns-in_default : goal.returns-in_default
+pub returns-in-Ok-Committed : goal.returns-in-Ok-Committed
 unfolding taking_fault
-returns-in_default g c = search rules
-
-pub returns-in-0 : goal.returns-in-0
-returns-in-0 g c = search rules
+returns-in-Ok-Committed g c = search rules
