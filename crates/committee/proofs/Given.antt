@@ -2,7 +2,7 @@
 --     passed_over              what is not due is refused, and nothing changes
 --     accepted, refused        a delivery that is accepted, one that is refused
 --     given_more               one more delivery
-use Rattle.std.proofs.Common.{◌≡◌, ℕ, suc, ◌+◌, ◌<◌, ◌≤◌, Bool, true, false, cond, ◌&&◌, ◌||◌, eqb, ltb, leb, List, length, get_or, Some, None, Ok, Err, Option, sym, refl, ap, ◌∙◌, add-zero, add-one, arith}
+use Rattle.std.proofs.Common.{◌≡◌, ℕ, zero, suc, ◌+◌, ◌-◌, ◌<◌, ◌≤◌, Bool, true, false, cond, ◌&&◌, ◌||◌, eqb, ltb, leb, List, length, get_or, is_ok, Some, None, Option, Result, sym, refl, ap, ◌∙◌, add-zero, arith}
 use Rattle.std.proofs.lemmas.List.{get_or_past}
 use Rattle.std.proofs.lemmas.Bool.{and_parts, eqb-false, ltb-false, lt-ltb, leb-true, false≢true}
 use Rattle.quorum.specs.Firsts.{fault_if, first}
@@ -87,10 +87,12 @@ module _ (S : Setting) (s : State) (i k : ℕ) (not_due : due s.post k (row s i)
           untaken S (mail S s) i (row s i) (suc k) (rw e n.0) (rw e n.1)
 
 module _ (S : Setting) (i k : ℕ) (w : Sweeping) where
-  pub passed_over : due w.state.post k (row w.state i).ballot.view ≡ false → given S i (suc k) w ≡ w
+  pub passed_over : 1 ≤ k → due w.state.post (k - 1) (row w.state i).ballot.view ≡ false → given S i k w ≡ w
   unfolding deliver
-  passed_over h =
-      let f = first_refuses (lent_fault S w.state) _ (first_refuses (run_fault S i) _ (undelivered S w.state i k h)) in
+  passed_over l h =
+      let one : suc (k - 1) ≡ k = omega arith in
+      let u = undelivered S w.state i (k - 1) h in
+      let f = first_refuses (lent_fault S w.state) _ (first_refuses (run_fault S i) _ (rw one at u)) in
       rw (f.1, add-zero)
 
   abbrev moved_to : List Row → State
@@ -107,14 +109,21 @@ module _ (S : Setting) (i k : ℕ) (w : Sweeping) where
   abbrev after : State → ℕ → Sweeping
   after s n = record { state = s; accepted = n; moves = w.moves; stopped = w.stopped }
 
-  pub accepted : (t : List Row) → Ok tt ≡ (deliver S w.state i k).answer → t ≡ (deliver S w.state i k).state.table → after (moved_to t) (w.accepted + 1) ≡ given S i k w
-  accepted t ok is = rw (sym ok, is) (ap (λ (s : State). after s (w.accepted + 1)) keeps)
+  module _ (t : List Row) (r : Result (Unit {0}) Refusal) (r_is : r ≡ (deliver S w.state i k).answer) (t_is : t ≡ (deliver S w.state i k).state.table) where
+    pub accepted : is_ok r ≡ true → after (moved_to t) (w.accepted + 1) ≡ given S i k w
+    accepted h =
+        let ok : is_ok (deliver S w.state i k).answer ≡ true = rw r_is at h in
+        rw (ok, t_is) (ap (λ (s : State). after s (w.accepted + 1)) keeps)
 
-  pub refused : (t : List Row) (e : Refusal) → Err e ≡ (deliver S w.state i k).answer → t ≡ (deliver S w.state i k).state.table → after (moved_to t) w.accepted ≡ given S i k w
-  refused t e err is = rw (sym err, is, add-zero) (ap (λ (s : State). after s w.accepted) keeps)
+    pub refused : is_ok r ≡ false → after (moved_to t) w.accepted ≡ given S i k w
+    refused h =
+        let err : is_ok (deliver S w.state i k).answer ≡ false = rw r_is at h in
+        rw (err, t_is, add-zero) (ap (λ (s : State). after s w.accepted) keeps)
 
-pub given_more : (S : Setting) (i : ℕ) (w : Sweeping) (k : ℕ) (u v : Sweeping) → v ≡ given S i (k + 1) u → u ≡ given_all S i w k → v ≡ given_all S i w (k + 1)
+pub given_more : (S : Setting) (i : ℕ) (w : Sweeping) (k n : ℕ) (u v : Sweeping) → 1 ≤ k → v ≡ given S i k u → u ≡ given_all S i w (k - 1) → n ≡ k → v ≡ given_all S i w n
 unfolding given_all
-given_more S i w k u v e f =
-    let one : v ≡ given S i (suc k) u = rw add-one at e in
-    rw add-one (one ∙ ap (λ (x : Sweeping). given S i (suc k) x) f)
+given_more S i w zero n u v l e f g = absurd (omega arith)
+given_more S i w (suc k) n u v l e f g =
+    let one : suc k - 1 ≡ k = omega arith in
+    let h : u ≡ given_all S i w k = rw one at f in
+    rw g (e ∙ ap (λ (x : Sweeping). given S i (suc k) x) h)

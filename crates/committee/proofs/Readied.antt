@@ -1,11 +1,11 @@
 -- What a move does that is ready, and why one is refused that is not. Assumes nothing.
+--     Sendable S s          there is room, and the post is as long as at the opening
 --     Readied S s i p x     the move p, with the message x, is made next
 --     readied               it is, where `ready` says so
+--     within, sendable      the process has a row then, and there is room for the message m
 --     unready               the move is refused, where `ready` refuses
 --     move_leaves           a refused move leaves the state
---     by_fault, by_idle, by_full, by_plan     what `ready` says, test by test
-use Rattle.std.proofs.Common.{◌≡◌, ℕ, ◌<◌, Bool, true, false, not, ◌&&◌, length, is_some, IsErrAnd, Some, None, Ok, Err, Option, Result, sym, refl, ap, ◌∙◌, subst, arith}
-use Rattle.std.proofs.lemmas.Result.{err_from_is_err_and}
+use Rattle.std.proofs.Common.{◌≡◌, ℕ, ◌<◌, Bool, true, false, not, ◌&&◌, length, is_some, Some, None, Ok, Err, Option, Result, sym, refl, ap, ◌∙◌, subst, arith}
 use Rattle.std.proofs.lemmas.Bool.{ltb-true, false≢true}
 use Rattle.quorum.specs.Firsts.{fault_if, first, answered}
 use Rattle.quorum.proofs.Found.{both_none}
@@ -19,7 +19,10 @@ use Rattle.protocol.specs.Plans.{plan, planned, sends, move_of}
 use Rattle.protocol.specs.Calls.{lent_fault, run_fault, sent, place_sent, moving, move}
 use Rattle.agreement.proofs.Granted.{lent_is, run_is}
 use Rattle.committee.specs.Readiness.{ready_by, ready}
-use Rattle.committee.proofs.Refused.{Sendable}
+
+pub record Sendable (S : Setting) (s : State) : Type 0 where
+  pub room : s.count < length s.post
+  pub span : length s.post ≡ S.span
 
 abbrev Next : Type 0
 Next = Result (Plan × Option Message) Refusal
@@ -100,6 +103,12 @@ module _ (S : Setting) (s : State) (i : ℕ) where
       go None fit = readied_fit fit _ refl p x (h ∙ ready_fit fit)
       go (Some e) fit = let k : ◌≡◌ {A = Next} (Ok (p, x)) (Err e) = rw fit at h in let z : ◌≡◌ {A = ℕ} 0 1 = cc in absurd (omega arith)
 
+  pub within : (p : Plan) (x : Option Message) → ◌≡◌ {A = Next} (Ok (p, x)) (ready S s i) → i < length s.table
+  within p x h = (readied p x h).within
+
+  pub sendable : (p : Plan) (m : Message) → ◌≡◌ {A = Next} (Ok (p, Some m)) (ready S s i) → Sendable S s
+  sendable p m h = (readied p (Some m) h).room refl
+
   pub unready : (e : Refusal) → Err e ≡ ready S s i → move S s i ≡ record { answer = Err e; state = s }
   unfolding ready move
   unready e h = go _ refl
@@ -116,27 +125,3 @@ module _ (S : Setting) (s : State) (i : ℕ) where
       go (Ok (p, x)) k =
           let n : ◌≡◌ {A = Result (Move × ℕ) Refusal} (Err e) (Ok (move_of p, place_sent s x)) = rw (readied p x k).does at h in
           let z : ◌≡◌ {A = ℕ} 0 1 = cc in absurd (omega arith)
-
-  -- the same, as the tests find it
-  pub by_fault : (r : Next) (e : Refusal) → IsErrAnd r (λ y. y ≡ e) → first (lent_fault S s) (run_fault S i) ≡ Some e → r ≡ ready S s i
-  unfolding ready
-  by_fault r e h f = let p = err_from_is_err_and r h in rw (p.1, p.2, f)
-
-  module _ (lent : lent_fault S s ≡ None) (runs : run_fault S i ≡ None) (o : Option Plan) (o_is : o ≡ plan S.rule (mail S s) i (row s i)) where
-    pub by_idle : o ≡ None → Err NoMove ≡ ready S s i
-    unfolding ready
-    by_idle e = rw (lent, runs, sym o_is, e)
-
-    module _ (p : Plan) (found : o ≡ Some p) (x : Option Message) (x_is : x ≡ sends i (row s i) p) (b : Bool) (b_is : b ≡ is_some x) where
-      pub by_full : (r : Next) (e : Refusal) → IsErrAnd r (λ y. y ≡ e) → fault_if (b && not (has_room s)) PostFull ≡ Some e → r ≡ ready S s i
-      unfolding ready
-      by_full r e h f =
-          let q = err_from_is_err_and r h in
-          let k : fault_if (is_some (sends i (row s i) p) && not (has_room s)) PostFull ≡ Some e = rw (b_is, x_is) at f in
-          rw (q.1, q.2, lent, runs, sym o_is, found, k)
-
-      pub by_plan : fault_if (b && not (has_room s)) PostFull ≡ None → ◌≡◌ {A = Next} (Ok (p, x)) (ready S s i)
-      unfolding ready
-      by_plan f =
-          let k : fault_if (is_some (sends i (row s i) p) && not (has_room s)) PostFull ≡ None = rw (b_is, x_is) at f in
-          rw (lent, runs, sym o_is, found, k, x_is)

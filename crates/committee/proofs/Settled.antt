@@ -1,5 +1,6 @@
 -- The moves of a sweep, one by one: k of at most 12 are made. Assumes nothing.
---     over_is          a committee is for good what its rules, its post's length and its foreign set are
+--     same_setting     a committee that is for good what another is has its setting
+--     same_then        one after the other
 --     comes_to         the state that a call's table, post and numbers make
 --     settle_more      one move more
 --     settle_stops     a move that is refused
@@ -14,12 +15,22 @@ use Rattle.protocol.specs.Settings.{Setting, State}
 use Rattle.protocol.specs.Calls.{move}
 use Rattle.protocol.specs.Sweeps.{Sweeping, is_full, settle}
 use Rattle.agreement.proofs.Endings.{settle_ok, settle_err}
-use Rattle.committee.specs.Committees.{over, lent, counted}
+use Rattle.committee.specs.Committees.{SameSetting, setting, lent, counted}
 use Rattle.committee.specs.declared.books.Books.{Books}
+use Rattle.committee.specs.declared.committee.Committee.{Committee}
 use Rattle.committee.proofs.Readied.{move_leaves}
 
-pub over_is : (m n : Rule) (v u : ℕ → Bool) (b a : Books) (g h : ℕ) → m ≡ n → v ≡ u → b.span ≡ a.span → g ≡ h → over m v b g ≡ over n u a h
-over_is m n v u b a g h e f p q = rw (e, f, p, q)
+module _ {Q V : Type 0} where
+  pub same_setting : (M : Q → Rule) (W : V → ℕ → Bool) (c d : Committee Q V) → SameSetting c d → setting M W d ≡ setting M W c
+  same_setting M W c d h = rw (h.rule, h.validity, h.span, h.foreign)
+
+  pub same_then : (c d e : Committee Q V) → SameSetting c d → SameSetting d e → SameSetting c e
+  same_then c d e h k = record {
+    rule = k.rule ∙ h.rule;
+    validity = k.validity ∙ h.validity;
+    span = k.span ∙ h.span;
+    foreign = k.foreign ∙ h.foreign;
+  }
 
 pub comes_to : (b a : Books) (t : List Row) (p : List Message) (s : State) → a ≡ counted b s → t ≡ s.table → p ≡ s.post → lent a t p ≡ s
 comes_to b a t p s e f h = rw (e, f, h)

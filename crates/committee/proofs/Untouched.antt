@@ -1,6 +1,7 @@
 -- What single calls leave as it is. Assumes nothing.
 --     expire_table, post_table         an expiry and a posting change no row
 --     deliver_post, deliver_count      a delivery posts nothing
+--     untouched                        all of these
 use Rattle.std.proofs.Common.{◌≡◌, ℕ, Some, None, Option, refl}
 use Rattle.protocol.specs.declared.call.Posting.{Posting}
 use Rattle.protocol.specs.declared.refusal.Refusal.{Refusal}
@@ -35,3 +36,5 @@ module _ (S : Setting) (s : State) where
     pub deliver_count : (deliver S s i k).state.count ≡ s.count
     unfolding deliver
     deliver_count = either (λ (t : State). t.count) s fault tt _ refl
+
+pub ruleset untouched = (expire_table, post_table, deliver_post, deliver_count)

@@ -3,7 +3,7 @@ ghost use Rattle.std.specs.Prelude.{◌≡◌, ◌+◌, ◌<◌, length, slice_s
 
 use mail::message::Message;
 
-#[derive(Clone, Copy)]
+#[derive(Clone, Copy, Default, PartialEq, Eq, Debug)]
 pub struct Books {
     // How many messages are posted.
     pub count: u16,
@@ -12,17 +12,16 @@ pub struct Books {
 }
 
 impl Books {
-    // Puts the message at the next place. Answers the numbers after.
-    pub(crate) fn append(self, post: &mut [Message], message: Message) -> Books
-        requires room { self.count < length post.old }
-        requires span { length post.old ≡ self.span }
-        ensures post { post.new ≡ slice_set post.old self.count message }
-        ensures books { result ≡ record { count = self.count + 1; span = self.span } }
+    // Puts the message at the next place, and answers the place.
+    pub(crate) fn append(&mut self, post: &mut [Message], message: Message) -> u16
+        requires room { self.old.count < length post.old }
+        requires span { length post.old ≡ self.old.span }
+        ensures place { result ≡ self.old.count + 1 }
+        ensures post { post.new ≡ slice_set post.old self.old.count message }
+        ensures books { self.new ≡ record { count = self.old.count + 1; span = self.old.span } }
     {
         post[self.count as usize] = message;
-        Books {
-            count: self.count + 1,
-            span: self.span,
-        }
+        self.count += 1;
+        self.count
     }
 }

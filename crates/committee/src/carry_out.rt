@@ -1,7 +1,7 @@
 // Any call, by its name.
 ghost use Rattle.std.specs.Prelude.{◌≡◌};
 ghost use Rattle.protocol.specs.Runs.{carry_out};
-ghost use Rattle.committee.specs.Committees.{counted, lent, over};
+ghost use Rattle.committee.specs.Committees.{counted, lent, SameSetting, setting};
 
 use crate::committee::Committee;
 use mail::message::Message;
@@ -13,39 +13,35 @@ use quorum::validity::ValidityRule;
 
 impl<Q: QuorumRule, V: ValidityRule> Committee<Q, V> {
     // Makes the call, and answers what it answers.
+    #[tactic(auto, using(crate::proofs::Untouched::untouched))]
     pub fn carry_out(
         &mut self,
         table: &mut [Row],
         post: &mut [Message],
         call: Call,
     ) -> Result<Answer, Refusal>
-        ensures answer { result ≡ (carry_out (over (Q.meaning self.old.rule) (V.valid self.old.validity) self.old.books self.old.foreign.bits) (lent self.old.books table.old post.old) call).answer }
-        ensures table { table.new ≡ (carry_out (over (Q.meaning self.old.rule) (V.valid self.old.validity) self.old.books self.old.foreign.bits) (lent self.old.books table.old post.old) call).state.table }
-        ensures post { post.new ≡ (carry_out (over (Q.meaning self.old.rule) (V.valid self.old.validity) self.old.books self.old.foreign.bits) (lent self.old.books table.old post.old) call).state.post }
-        ensures books { self.new.books ≡ counted self.old.books (carry_out (over (Q.meaning self.old.rule) (V.valid self.old.validity) self.old.books self.old.foreign.bits) (lent self.old.books table.old post.old) call).state }
-        ensures same { (self.new.rule ≡ self.old.rule) × ((self.new.validity ≡ self.old.validity) × (self.new.foreign ≡ self.old.foreign)) }
+        ensures answer { result ≡ (carry_out (setting Q.meaning V.valid self.old) (lent self.old.books table.old post.old) call).answer }
+        ensures table { table.new ≡ (carry_out (setting Q.meaning V.valid self.old) (lent self.old.books table.old post.old) call).state.table }
+        ensures post { post.new ≡ (carry_out (setting Q.meaning V.valid self.old) (lent self.old.books table.old post.old) call).state.post }
+        ensures books { self.new.books ≡ counted self.old.books (carry_out (setting Q.meaning V.valid self.old) (lent self.old.books table.old post.old) call).state }
+        ensures same { SameSetting self.old self.new }
     {
-        match call {
-            Call::Expire { process } => {
-                let place = self.expire(table, post, process)?;
-                Ok(Answer::Sent { place })
-            }
-            Call::Post { process, posting } => {
-                let place = self.post(table, post, process, &posting)?;
-                Ok(Answer::Sent { place })
-            }
+        Ok(match call {
+            Call::Expire { process } => Answer::Sent {
+                place: self.expire(table, post, process)?,
+            },
+            Call::Post { process, posting } => Answer::Sent {
+                place: self.post(table, post, process, &posting)?,
+            },
             Call::Deliver { process, place } => {
                 self.deliver(table, post, process, place)?;
-                Ok(Answer::Delivered)
+                Answer::Delivered
             }
             Call::MakeMove { process } => {
                 let (made, place) = self.make_move(table, post, process)?;
-                Ok(Answer::Moved { made, place })
+                Answer::Moved { made, place }
             }
-            Call::Sweep => {
-                let swept = self.sweep(table, post)?;
-                Ok(Answer::Swept(swept))
-            }
-        }
+            Call::Sweep => Answer::Swept(self.sweep(table, post)?),
+        })
     }
 }

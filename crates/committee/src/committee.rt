@@ -25,7 +25,7 @@ impl<Q: QuorumRule, V: ValidityRule> Committee<Q, V> {
         Committee {
             rule,
             validity,
-            books: Books { count: 0, span: 0 },
+            books: Books::default(),
             foreign: ProcessSet::empty(),
         }
     }

@@ -1,7 +1,7 @@
 // The decision of a process.
 ghost use Rattle.std.specs.Prelude.{◌≡◌};
 ghost use Rattle.protocol.specs.Calls.{decision};
-ghost use Rattle.committee.specs.Committees.{lent, over};
+ghost use Rattle.committee.specs.Committees.{lent, setting};
 
 use crate::committee::Committee;
 use mail::message::Message;
@@ -18,7 +18,7 @@ impl<Q: QuorumRule, V: ValidityRule> Committee<Q, V> {
         post: &[Message],
         process: u8,
     ) -> Result<Option<Decision>, Refusal>
-        ensures answer { result ≡ (decision (over (Q.meaning self.now.rule) (V.valid self.now.validity) self.now.books self.now.foreign.bits) (lent self.now.books table.now post.now) process).answer }
+        ensures answer { result ≡ (decision (setting Q.meaning V.valid self.now) (lent self.now.books table.now post.now) process).answer }
     {
         self.check_lent(table, post)?;
         self.check_run(process)?;

@@ -1,10 +1,11 @@
 // Opening a committee.
-ghost use Rattle.std.specs.Prelude.{◌≡◌, ◌<◌, ◌≤◌, true, ◌||◌, length, Ok, ◌==◌, nat_lt};
-ghost use Rattle.quorum.specs.Firsts.{answered, fault_if, first, first_below};
-ghost use Rattle.protocol.specs.declared.refusal.Refusal.TheVariants.{FewValues, PostLength, ShortTable};
+ghost use Rattle.std.specs.Prelude.{◌≡◌, ◌≤◌, true, not, ◌&&◌, length, Ok};
+ghost use Rattle.sets.specs.Sets.{has};
+ghost use Rattle.quorum.specs.Firsts.{answered, fault_if, first_below};
+ghost use Rattle.protocol.specs.declared.refusal.Refusal.TheVariants.{OwnNotValid};
 ghost use Rattle.protocol.specs.Openings.{new_rows, open_fault, opening, own_fault};
 ghost use Rattle.agreement.specs.Promise.{Promise};
-ghost use Rattle.committee.specs.Committees.{counts, lent, over, whole};
+ghost use Rattle.committee.specs.Committees.{counts, lent, setting, whole};
 
 use crate::books::Books;
 use crate::committee::Committee;
@@ -18,7 +19,8 @@ use sets::process_set::ProcessSet;
 use steps::rows::new_row;
 
 impl<Q: QuorumRule, V: ValidityRule> Committee<Q, V> {
-    // Sets all new. What is promised from there on stands in the last clause.
+    // Sets all new, in place, since a committee can be opened again. What is promised from there on stands in the last clause.
+    #[tactic(auto, unfolding(protocol::specs::Openings::open_fault))]
     pub fn open(
         &mut self,
         table: &mut [Row],
@@ -31,7 +33,7 @@ impl<Q: QuorumRule, V: ValidityRule> Committee<Q, V> {
         ensures books { self.new.books ≡ counts (opening (Q.meaning self.old.rule) (V.valid self.old.validity) (whole self.old.books self.old.foreign.bits) table.old post.now foreign.bits owns.now).books }
         ensures foreign { self.new.foreign.bits ≡ (opening (Q.meaning self.old.rule) (V.valid self.old.validity) (whole self.old.books self.old.foreign.bits) table.old post.now foreign.bits owns.now).books.foreign }
         ensures rules { (self.new.rule ≡ self.old.rule) × (self.new.validity ≡ self.old.validity) }
-        ensures promise { result ≡ Ok tt → (Q.meaning self.new.rule).tolerated self.new.foreign.bits ≡ true → Promise (over (Q.meaning self.new.rule) (V.valid self.new.validity) self.new.books self.new.foreign.bits) (lent self.new.books table.new post.now) }
+        ensures promise { result ≡ Ok tt → (Q.meaning self.new.rule).tolerated self.new.foreign.bits ≡ true → Promise (setting Q.meaning V.valid self.new) (lent self.new.books table.new post.now) }
     {
         check_opening(&self.rule, &self.validity, table, post, foreign, owns)?;
         let size = self.rule.size();
@@ -45,6 +47,7 @@ impl<Q: QuorumRule, V: ValidityRule> Committee<Q, V> {
     }
 }
 
+#[tactic(auto, unfolding(protocol::specs::Openings::open_fault))]
 fn check_opening<Q: QuorumRule, V: ValidityRule>(
     rule: &Q,
     validity: &V,
@@ -56,17 +59,13 @@ fn check_opening<Q: QuorumRule, V: ValidityRule>(
     ensures { result ≡ answered (open_fault (Q.meaning rule.now) (V.valid validity.now) table.now post.now foreign.bits owns.now) tt }
 {
     let size = rule.size();
-    check_lengths(size, owns.len(), table.len(), post.len())?;
+    check(owns.len() >= size as usize, Refusal::FewValues)?;
+    check(table.len() >= size as usize, Refusal::ShortTable)?;
+    check(
+        (1..=usize::from(u16::MAX)).contains(&post.len()),
+        Refusal::PostLength,
+    )?;
     check_owns(validity, size, foreign, owns)
-}
-
-// There is an own value and a row for each process, and the post has a lawful length.
-fn check_lengths(size: u8, values: usize, rows: usize, places: usize) -> Result<(), Refusal>
-    ensures { result ≡ answered (first (fault_if (nat_lt values size) FewValues) (first (fault_if (nat_lt rows size) ShortTable) (fault_if (places == 0 || nat_lt 65535 places) PostLength))) tt }
-{
-    check(values >= size as usize, Refusal::FewValues)?;
-    check(rows >= size as usize, Refusal::ShortTable)?;
-    check(places >= 1 && places <= 65_535, Refusal::PostLength)
 }
 
 // The own values of run processes are valid.
@@ -79,8 +78,8 @@ fn check_owns<V: ValidityRule>(
     requires { size ≤ length owns.now }
     ensures { result ≡ answered (first_below (own_fault (V.valid validity.now) foreign.bits owns.now) size) tt }
 {
-    for slot in 0..size {
-        check_own(validity, foreign, owns, slot)?;
+    for (slot, own) in (0..size).zip(owns) {
+        check_own(validity, foreign, slot, *own)?;
     }
     Ok(())
 }
@@ -88,23 +87,24 @@ fn check_owns<V: ValidityRule>(
 fn check_own<V: ValidityRule>(
     validity: &V,
     foreign: ProcessSet,
-    owns: &[u64],
     slot: u8,
+    own: u64,
 ) -> Result<(), Refusal>
-    requires { slot < length owns.now }
-    ensures { result ≡ answered (own_fault (V.valid validity.now) foreign.bits owns.now slot) tt }
+    ensures { result ≡ answered (fault_if (not (has foreign.bits slot) && not (V.valid validity.now own)) (OwnNotValid slot)) tt }
 {
     check(
-        foreign.contains(slot) || validity.is_valid(owns[slot as usize]),
+        foreign.contains(slot) || validity.is_valid(own),
         Refusal::OwnNotValid { slot },
     )
 }
 
+#[tactic(auto, using(crate::proofs::Opened::rows_more), unfolding(protocol::specs::Openings::new_rows))]
 fn set_new(table: &mut [Row], owns: &[u64], size: u8)
     requires { (size ≤ length table.old) × (size ≤ length owns.now) }
     ensures { table.new ≡ new_rows owns.now table.old size }
 {
-    for slot in 0..size {
-        table[slot as usize] = new_row(owns[slot as usize]);
+    // By slot: what a walk by `iter_mut().zip(..)` writes is not known after it.
+    for (slot, own) in owns[..size as usize].iter().enumerate() {
+        table[slot] = new_row(*own);
     }
 }

@@ -3,7 +3,7 @@ ghost use Rattle.std.specs.Prelude.{◌≡◌};
 ghost use Rattle.quorum.specs.Firsts.{answered};
 ghost use Rattle.protocol.specs.Calls.{post as posted_by};
 ghost use Rattle.committee.specs.Reasons.{post_fault};
-ghost use Rattle.committee.specs.Committees.{counted, lent, over};
+ghost use Rattle.committee.specs.Committees.{counted, lent, SameSetting, setting};
 
 use crate::committee::Committee;
 use mail::faults::check;
@@ -16,6 +16,7 @@ use quorum::validity::ValidityRule;
 
 impl<Q: QuorumRule, V: ValidityRule> Committee<Q, V> {
     // Adds the message, with the foreign `process` as its sender. Answers the place.
+    #[tactic(auto, unfolding(protocol::specs::Calls::post))]
     pub fn post(
         &mut self,
         table: &[Row],
@@ -23,14 +24,13 @@ impl<Q: QuorumRule, V: ValidityRule> Committee<Q, V> {
         process: u8,
         posting: &Posting,
     ) -> Result<u16, Refusal>
-        ensures answer { result ≡ (posted_by (over (Q.meaning self.old.rule) (V.valid self.old.validity) self.old.books self.old.foreign.bits) (lent self.old.books table.now post.old) process posting.now).answer }
-        ensures post { post.new ≡ (posted_by (over (Q.meaning self.old.rule) (V.valid self.old.validity) self.old.books self.old.foreign.bits) (lent self.old.books table.now post.old) process posting.now).state.post }
-        ensures books { self.new.books ≡ counted self.old.books (posted_by (over (Q.meaning self.old.rule) (V.valid self.old.validity) self.old.books self.old.foreign.bits) (lent self.old.books table.now post.old) process posting.now).state }
-        ensures same { (self.new.rule ≡ self.old.rule) × ((self.new.validity ≡ self.old.validity) × (self.new.foreign ≡ self.old.foreign)) }
+        ensures answer { result ≡ (posted_by (setting Q.meaning V.valid self.old) (lent self.old.books table.now post.old) process posting.now).answer }
+        ensures post { post.new ≡ (posted_by (setting Q.meaning V.valid self.old) (lent self.old.books table.now post.old) process posting.now).state.post }
+        ensures books { self.new.books ≡ counted self.old.books (posted_by (setting Q.meaning V.valid self.old) (lent self.old.books table.now post.old) process posting.now).state }
+        ensures same { SameSetting self.old self.new }
     {
         self.check_posting(table, post, process, posting)?;
-        self.books = self.books.append(post, posting.from(process));
-        Ok(self.books.count)
+        Ok(self.books.append(post, posting.from(process)))
     }
 
     fn check_posting(
@@ -40,7 +40,7 @@ impl<Q: QuorumRule, V: ValidityRule> Committee<Q, V> {
         process: u8,
         posting: &Posting,
     ) -> Result<(), Refusal>
-        ensures { result ≡ answered (post_fault (over (Q.meaning self.now.rule) (V.valid self.now.validity) self.now.books self.now.foreign.bits) (lent self.now.books table.now post.now) process posting.now) tt }
+        ensures { result ≡ answered (post_fault (setting Q.meaning V.valid self.now) (lent self.now.books table.now post.now) process posting.now) tt }
     {
         self.check_lent(table, post)?;
         self.check_foreign(process)?;
@@ -50,6 +50,6 @@ impl<Q: QuorumRule, V: ValidityRule> Committee<Q, V> {
                 .is_well_formed(self.rule.size(), self.books.count),
             Refusal::NotWellFormed,
         )?;
-        self.check_room(table, post)
+        self.check_room(post)
     }
 }

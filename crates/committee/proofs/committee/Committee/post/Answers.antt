@@ -1,24 +1,13 @@
-use Rattle.std.proofs.Common.{Ok, refl, ap}
-use Rattle.quorum.proofs.Found.{none_from_ok, some_from_err}
-use Rattle.protocol.specs.Calls.{post}
-use Rattle.committee.specs.Committees.{over, lent}
-use Rattle.committee.specs.declared.books.Books.{Books}
-use Rattle.committee.proofs.Refused.{refuses, post_sends}
+use Rattle.std.proofs.Common.{rules}
+use Rattle.std.proofs.lemmas.Result.{err_from_is_err_and}
+use Rattle.committee.specs.Committees.{setting, lent}
+use Rattle.committee.proofs.Refused.{post_refused}
 use Rattle.committee.proofs.committee.Committee.post.Goals as goal
 
 pub returns-in_err-check_posting : goal.returns-in_err-check_posting
-unfolding post
 returns-in_err-check_posting g c =
-    let s = some_from_err _ _ _ c.in_err-check_posting.ensures in
-    record { answer = refuses _ _ _ _ _ _ c.from_residual.ensures.1 s; post = rw s; books = rw s; same = (refl, (refl, refl)) }
-
-pub append-self-requires : goal.append-self-requires
-append-self-requires g c =
-    let fit = post_sends (over (g.Q.QuorumRule.meaning c.args.self.now.rule) (g.V.ValidityRule.valid c.args.self.now.validity) c.args.self.now.books c.args.self.now.foreign.bits) (lent c.args.self.now.books c.args.table.now c.args.post.now) c.args.process c.args.posting.now (none_from_ok _ _ _ c.in_ok-check_posting.ensures) in
-    record { room = fit.room; span = fit.span }
-
-pub returns : goal.returns
-unfolding post
-returns g c =
-    let s = none_from_ok _ _ _ c.in_ok-check_posting.ensures in
-    record { answer = rw s (ap (λ (b : Books). Ok b.count) c.append-self.ensures.books); post = rw s (rw (c.append-self.ensures.post, c.from.ensures)); books = rw s c.append-self.ensures.books; same = (refl, (refl, refl)) }
+    let S = setting g.Q.QuorumRule.meaning g.V.ValidityRule.valid c.args.self.now in
+    let s = lent c.args.self.now.books c.args.table.now c.args.post.now in
+    let u = post_refused S s _ c.args.process c.args.posting.now c.in_err-check_posting.ensures in
+    let p = err_from_is_err_and c.from_residual.result c.from_residual.ensures.1 in
+    record { answer = rw (p.1, p.2, u); post = rw u; books = rw u; same = search rules }
