@@ -6,15 +6,15 @@ use Rattle.std.specs.Prelude.{ℕ, cond, List, [], ◌∷◌, ◌++◌, Some, No
 use Rattle.std.specs.Option.{option_map}
 use Rattle.numerals.specs.declared.field.Field.{Field}
 use Rattle.numerals.specs.declared.field.Field.TheVariants.{Empty}
-use Rattle.numerals.specs.declared.field.Step.TheVariants.{Read, Ended, Wrong}
+use Rattle.numerals.specs.declared.field.Step.TheVariants.{Read, Ended}
 use Rattle.numerals.specs.Fields.{next, ended}
 
 abbrev pub read_on : Field → List ℕ → List ℕ → Option (List ℕ)
 read_on f ns [] = option_map (λ n. ns ++ (n ∷ [])) (ended f)
 read_on f ns (b ∷ bs) = elim (next f b) [
-  | Read g ↦ read_on g ns bs
-  | Ended n ↦ read_on Empty (ns ++ (n ∷ [])) bs
-  | Wrong ↦ None
+  | Some (Read g) ↦ read_on g ns bs
+  | Some (Ended n) ↦ read_on Empty (ns ++ (n ∷ [])) bs
+  | None ↦ None
 ]
 
 unfoldable pub numbers : List ℕ → Option (List ℕ)

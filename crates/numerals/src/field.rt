@@ -2,7 +2,7 @@
 ghost use Rattle.std.specs.Prelude.{◌≡◌, ◌+◌, ◌*◌, ◌^◌};
 ghost use Rattle.numerals.specs.Fields.{next, ended, longer};
 
-// What has been read of a number.
+// What has been read of a number. No Option of one: a field that is 0 takes no digit, and any other number does.
 #[derive(Clone, Copy, PartialEq, Eq, Debug)]
 pub enum Field {
     Empty,
@@ -18,29 +18,20 @@ pub enum Step {
     Read(Field),
     // A space: the number is whole.
     Ended(u64),
-    // No number goes on like this, or none below 2^64.
-    Wrong,
 }
 
 impl Field {
-    pub fn next(self, byte: u8) -> Step
+    // None where no number goes on like this, or none below 2^64.
+    pub fn next(self, byte: u8) -> Option<Step>
         ensures { result ≡ next self byte }
     {
-        match self {
-            Field::Empty => match byte {
-                b'0' => Step::Read(Field::Zero),
-                b'1'..=b'9' => Step::Read(Field::Number((byte - b'0') as u64)),
-                _ => Step::Wrong,
-            },
-            Field::Zero => match byte {
-                b' ' => Step::Ended(0),
-                _ => Step::Wrong,
-            },
-            Field::Number(n) => match byte {
-                b' ' => Step::Ended(n),
-                b'0'..=b'9' => lengthen(n, byte - b'0'),
-                _ => Step::Wrong,
-            },
+        match (self, byte) {
+            (Field::Empty, b'0') => Some(Step::Read(Field::Zero)),
+            (Field::Empty, b'1'..=b'9') => Some(Step::Read(Field::Number((byte - b'0') as u64))),
+            (Field::Zero, b' ') => Some(Step::Ended(0)),
+            (Field::Number(n), b' ') => Some(Step::Ended(n)),
+            (Field::Number(n), b'0'..=b'9') => lengthen(n, byte - b'0'),
+            _ => None,
         }
     }
 
@@ -57,14 +48,9 @@ impl Field {
 }
 
 // One digit more.
-fn lengthen(n: u64, digit: u8) -> Step
+fn lengthen(n: u64, digit: u8) -> Option<Step>
     ensures { result ≡ longer n digit }
 {
-    match n.checked_mul(10) {
-        None => Step::Wrong,
-        Some(tens) => match tens.checked_add(digit as u64) {
-            None => Step::Wrong,
-            Some(sum) => Step::Read(Field::Number(sum)),
-        },
-    }
+    let longer = n.checked_mul(10)?.checked_add(digit as u64)?;
+    Some(Step::Read(Field::Number(longer)))
 }

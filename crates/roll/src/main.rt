@@ -23,12 +23,13 @@ fn main(rt: HostRuntime) -> io::Result<()> {
         let number = summary.lines().saturating_add(1);
         print!(rt; "{number}: ")?;
         match read_roll(heap, line.as_slice())? {
-            Some(roll) => match print_roll(&rt, &roll)? {
+            Some(roll) => match print_roll(&rt, &roll) {
                 Ok(()) => summary.accept(),
-                Err(fault) => {
-                    print_refusal(&rt, fault)?;
+                Err(Stop::Refused(fault)) => {
+                    println!(rt; "refused {}", fault.numbers())?;
                     summary.refuse();
                 }
+                Err(Stop::Unprinted(error)) => return Err(error),
             },
             None => {
                 println!(rt;
@@ -41,40 +42,39 @@ fn main(rt: HostRuntime) -> io::Result<()> {
     println!(rt; "{summary}")
 }
 
-// Prints the roll, or gives back why its rule is refused.
-fn print_roll(rt: &HostRuntime, roll: &Roll) -> io::Result<Result<(), RuleFault>> {
-    match roll {
-        Roll::ByCount(f) => match Counting::new(*f) {
-            Ok(rule) => print_rule(rt, &rule, roll)?,
-            Err(fault) => return Ok(Err(fault)),
-        },
-        Roll::ByWeight(weights) => {
-            let mut rule = Weights::four_equal();
-            match rule.replace(weights.as_slice()) {
-                Ok(()) => print_rule(rt, &rule, roll)?,
-                Err(fault) => return Ok(Err(fault)),
-            }
-        }
-    }
-    Ok(Ok(()))
+// Why a roll is not printed.
+#[derive(Drop)]
+enum Stop {
+    // Its rule is refused.
+    Refused(RuleFault),
+    Unprinted(io::Error),
 }
 
-fn print_rule<Q: QuorumRule>(rt: &HostRuntime, rule: &Q, roll: &Roll) -> io::Result<()> {
-    let size = rule.size();
-    let total = roll.total(size);
-    println!(rt; "size {size}, total {total}")?;
-    for process in 0..size {
-        let standing = Standing::of(rule, roll, process);
-        println!(rt; "{standing}")?;
+impl From<RuleFault> for Stop {
+    fn from(fault: RuleFault) -> Stop {
+        Stop::Refused(fault)
+    }
+}
+
+impl From<io::Error> for Stop {
+    fn from(error: io::Error) -> Stop {
+        Stop::Unprinted(error)
+    }
+}
+
+fn print_roll(rt: &HostRuntime, roll: &Roll) -> Result<(), Stop> {
+    match roll {
+        Roll::ByCount(f) => print_rule(rt, &Counting::new(*f)?, roll)?,
+        Roll::ByWeight(weights) => print_rule(rt, &Weights::new(weights.as_slice())?, roll)?,
     }
     Ok(())
 }
 
-fn print_refusal(rt: &HostRuntime, fault: RuleFault) -> io::Result<()> {
-    let numbers = fault.numbers();
-    let number = numbers.number;
-    let layer = numbers.layer;
-    let place = numbers.place;
-    let slot = numbers.slot;
-    println!(rt; "refused {number} {layer} {place} {slot}")
+fn print_rule<Q: QuorumRule>(rt: &HostRuntime, rule: &Q, roll: &Roll) -> io::Result<()> {
+    let size = rule.size();
+    println!(rt; "size {size}, total {}", roll.total(size))?;
+    for process in 0..size {
+        println!(rt; "{}", Standing::of(rule, roll, process))?;
+    }
+    Ok(())
 }

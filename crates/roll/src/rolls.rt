@@ -1,5 +1,5 @@
 // Lines that are rolls: `C f`, and `W` with weights.
-ghost use Rattle.std.specs.Prelude.{◌≡◌, map, IfOk, slice_index};
+ghost use Rattle.std.specs.Prelude.{◌≡◌, map, IfOk};
 ghost use Rattle.std.specs.Option.{option_map};
 ghost use Rattle.sets.specs.Weighing.{total};
 ghost use Rattle.roll.specs.Rolls.{narrow, content, roll_of, weight_in};
@@ -20,7 +20,7 @@ impl Roll {
     {
         match self {
             Roll::ByCount(_) => 1,
-            Roll::ByWeight(weights) => weight_at(weights.as_slice(), process),
+            Roll::ByWeight(weights) => weights.get(process as usize).copied().unwrap_or(0),
         }
     }
 
@@ -28,21 +28,7 @@ impl Roll {
     pub(crate) fn total(&self, size: u8) -> u64
         ensures { result ≡ total size (weight_in self.now) }
     {
-        let mut sum = 0;
-        for process in 0..size {
-            sum += self.weight(process) as u64;
-        }
-        sum
-    }
-}
-
-fn weight_at(weights: &[u32], process: u8) -> u32
-    ensures { result ≡ slice_index weights.now process }
-{
-    if (process as usize) < weights.len() {
-        weights[process as usize]
-    } else {
-        0
+        (0..size).map(|process| self.weight(process) as u64).sum()
     }
 }
 
@@ -53,11 +39,9 @@ pub(crate) fn read_roll(heap: Global, line: &[u8]) -> Result<Option<Roll>, Alloc
     let Some(line) = read_line(heap, line)? else {
         return Ok(None);
     };
-    let letter = line.letter;
-    let numbers = line.numbers.as_slice();
-    match letter {
-        b'C' if numbers.len() == 1 => Ok(Some(Roll::ByCount(numbers[0].min(255) as u8))),
-        b'W' => Ok(Some(Roll::ByWeight(narrowed(heap, numbers)?))),
+    match (line.letter, line.numbers.as_slice()) {
+        (b'C', [faults]) => Ok(Some(Roll::ByCount(u8::try_from(*faults).unwrap_or(u8::MAX)))),
+        (b'W', weights) => Ok(Some(Roll::ByWeight(narrowed(heap, weights)?))),
         _ => Ok(None),
     }
 }
@@ -66,9 +50,8 @@ pub(crate) fn read_roll(heap: Global, line: &[u8]) -> Result<Option<Roll>, Alloc
 fn narrowed(heap: Global, numbers: &[u64]) -> Result<Vec<u32>, AllocError>
     ensures { IfOk result (λ v. v.items ≡ map narrow numbers.now) }
 {
-    let mut weights = Vec::new(heap);
-    for n in numbers {
-        weights.push((*n).min(4_294_967_295) as u32)?;
-    }
-    Ok(weights)
+    numbers
+        .iter()
+        .map(|n| u32::try_from(*n).unwrap_or(u32::MAX))
+        .collect(heap)
 }

@@ -10,7 +10,7 @@ use quorum::rules::QuorumRule;
 use sets::process_set::ProcessSet;
 use std::fmt;
 
-#[derive(Clone, Copy)]
+#[derive(Clone, Copy, PartialEq, Eq, Debug)]
 pub struct Standing {
     pub process: u8,
     pub weight: u32,
@@ -45,13 +45,13 @@ impl fmt::Display for Standing {
     ghost output = { λ s. Some (standing_text s) };
 
     fn fmt<W: fmt::Write>(&self, f: &mut fmt::Formatter<W>) -> fmt::Result {
-        let process = self.process;
-        let weight = self.weight;
-        let alone = yes_or_no(self.blocks_alone);
-        let without = yes_or_no(self.others_decide);
         write!(
             f,
-            "  process {process}: weight {weight}, blocks alone: {alone}, others decide without it: {without}"
+            "  process {}: weight {}, blocks alone: {}, others decide without it: {}",
+            self.process,
+            self.weight,
+            yes_or_no(self.blocks_alone),
+            yes_or_no(self.others_decide)
         )
     }
 }

@@ -5,7 +5,7 @@ ghost use Rattle.roll.specs.Texts.{summary_text};
 
 use std::fmt;
 
-#[derive(Clone, Copy)]
+#[derive(Clone, Copy, Default, PartialEq, Eq, Debug)]
 pub struct Summary {
     accepted: u64,
     refused: u64,
@@ -16,13 +16,10 @@ impl Summary {
     pub(crate) fn new() -> Self
         ensures { result ≡ none_yet }
     {
-        Summary {
-            accepted: 0,
-            refused: 0,
-            others: 0,
-        }
+        Summary::default()
     }
 
+    // One more line; each kind of line has a number and a method.
     pub(crate) fn accept(&mut self)
         ensures { self.new ≡ accepted_more self.old }
     {
@@ -61,13 +58,13 @@ impl fmt::Display for Summary {
     ghost output = { λ s. Some (summary_text s) };
 
     fn fmt<W: fmt::Write>(&self, f: &mut fmt::Formatter<W>) -> fmt::Result {
-        let read = self.rolls();
-        let accepted = self.accepted;
-        let refused = self.refused;
-        let others = self.others;
         write!(
             f,
-            "rolls read {read}, accepted {accepted}, refused {refused}; other lines {others}"
+            "rolls read {}, accepted {}, refused {}; other lines {}",
+            self.rolls(),
+            self.accepted,
+            self.refused,
+            self.others
         )
     }
 }
