@@ -12,9 +12,15 @@
 --     answered_line x t p l    the reply to the line l
 --     heard x t p l b          the byte b, where the line so far is l; a line feed (10) ends the line
 --     ended x t p l            the end of a script: bytes after the last line feed are a line too
+--     Scene                    where a player stands: its stage, the table, the post and the line so far
+--     scene_of c t p           where the player c of the code stands, with this table and post
+--     Makes r s h t            a call that answers r leads from s to t: unless memory runs out, h says what is replied and what is then; else all is as it was
 --     stage_of c               a committee of the code as a stage
+--     outcome r c t p          the reply r, with the committee c of the code, the table and the post after
 --     new_reply r, new_stage r     the reply and the stage that come of a new committee, or of the refusal of one
-use Rattle.std.specs.Prelude.{ℕ, zero, suc, ◌+◌, cond, List, [], length, replicate, Some, None, Ok, Err, Option, Result, ◌==◌, nat_lt, slice_set}
+use Rattle.std.specs.Prelude.{◌≡◌, ℕ, zero, suc, ◌+◌, cond, List, [], length, replicate, Some, None, Ok, Err, Option, Result, ◌==◌, nat_lt, slice_set}
+use Rattle.std.specs.Option.{option_map}
+use Rattle.std.specs.declared.alloc.AllocError.{AllocError}
 use Rattle.sets.specs.Weighing.{counting}
 use Rattle.quorum.specs.declared.counting.Counting.{Counting}
 use Rattle.quorum.specs.declared.validity.Framed.{Framed}
@@ -36,6 +42,7 @@ use Rattle.protocol.specs.Runs.{carry_out}
 use Rattle.committee.specs.declared.books.Books.{Books}
 use Rattle.committee.specs.declared.committee.Committee.{Committee}
 use Rattle.committee.specs.Committees.{no_books, whole, counts, counted, over, lent}
+use Rattle.rehearsal.specs.declared.player.Player.{Player}
 use Rattle.script.specs.declared.answers.Reply.{Reply}
 use Rattle.script.specs.declared.answers.Reply.TheVariants.{Wrong, Opened, Carried}
 use Rattle.script.specs.declared.request.Opening.{Opening}
@@ -142,6 +149,9 @@ standing_at (Some x) t p i = standing_by i (row (lent x.books t p) i) (decision 
 abbrev pub stage_of : Committee Counting Framed → Stage
 stage_of c = record { faults = c.rule.f; validity = c.validity; books = c.books; foreign = c.foreign.bits }
 
+abbrev pub outcome : Reply → Option (Committee Counting Framed) → List Row → List Message → Played
+outcome r c t p = record { reply = r; stage = option_map stage_of c; table = t; post = p }
+
 abbrev pub new_reply : Result (Committee Counting Framed) FaultNumbers → Reply
 new_reply (Ok c) = Opened (Ok tt)
 new_reply (Err e) = Opened (Err e)
@@ -149,3 +159,16 @@ new_reply (Err e) = Opened (Err e)
 abbrev pub new_stage : Result (Committee Counting Framed) FaultNumbers → Option Stage
 new_stage (Ok c) = Some (stage_of c)
 new_stage (Err e) = None
+
+pub record Scene : Type 0 where
+  pub stage : Option Stage
+  pub table : List Row
+  pub post : List Message
+  pub line : List ℕ
+
+abbrev pub scene_of : Player → List Row → List Message → Scene
+scene_of c t p = record { stage = option_map stage_of c.rehearsal.committee; table = t; post = p; line = c.line.bytes.items }
+
+abbrev pub Makes : Result (Option Reply) AllocError → Scene → Heard → Scene → Type 0
+Makes (Ok o) s h t = (o ≡ h.reply) × (t ≡ record { stage = h.stage; table = h.table; post = h.post; line = h.line })
+Makes (Err e) s h t = t ≡ s

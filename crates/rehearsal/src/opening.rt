@@ -10,6 +10,7 @@ use quorum::faults::FaultNumbers;
 use quorum::validity::Framed;
 use script::request::Opening;
 use sets::process_set::ProcessSet;
+use std::array;
 
 // The committee that a line asks for: by counting, with frame 0 and limit 1,000,000.
 pub(crate) fn opened(
@@ -21,10 +22,7 @@ pub(crate) fn opened(
     ensures stage { new_stage result ≡ (opened_by opening table.old post.now).stage }
     ensures table { table.new ≡ (opened_by opening table.old post.now).table }
 {
-    let rule = match Counting::new(opening.faults) {
-        Ok(rule) => rule,
-        Err(fault) => return Err(fault.numbers()),
-    };
+    let rule = Counting::new(opening.faults)?;
     let mut committee = Committee::new(
         rule,
         Framed {
@@ -35,19 +33,13 @@ pub(crate) fn opened(
     let foreign = ProcessSet {
         bits: opening.foreign,
     };
-    match committee.open(table, post, foreign, &owns_from(opening.first)) {
-        Ok(()) => Ok(committee),
-        Err(refusal) => Err(refusal.numbers()),
-    }
+    committee.open(table, post, foreign, &owns_from(opening.first))?;
+    Ok(committee)
 }
 
 // The own values of 32 processes, from `first` upward.
 fn owns_from(first: u32) -> [u64; 32]
     ensures { result ≡ owned first 32 }
 {
-    let mut owns = [0; 32];
-    for process in 0..32 {
-        owns[process] = first as u64 + process as u64;
-    }
-    owns
+    array::from_fn(|process| first as u64 + process as u64)
 }

@@ -1,7 +1,7 @@
 // A script that is read byte by byte.
-ghost use Rattle.std.specs.Prelude.{◌≡◌, [], is_ok, IfOk, if◌then◌else◌, None};
+ghost use Rattle.std.specs.Prelude.{◌≡◌, [], None};
 ghost use Rattle.std.specs.Option.{option_map};
-ghost use Rattle.rehearsal.specs.Playing.{answered_line, ended, heard, stage_of, standing_at};
+ghost use Rattle.rehearsal.specs.Playing.{Makes, answered_line, ended, heard, scene_of, stage_of, standing_at};
 
 use crate::rehearsal::Rehearsal;
 use mail::message::Message;
@@ -38,11 +38,7 @@ impl Player {
         post: &mut [Message],
         byte: u8,
     ) -> Result<Option<Reply>, AllocError>
-        ensures reply { IfOk result (λ o. o ≡ (heard (option_map stage_of self.old.rehearsal.committee) table.old post.old self.old.line.bytes.items byte).reply) }
-        ensures stage { option_map stage_of self.new.rehearsal.committee ≡ (if is_ok result then (heard (option_map stage_of self.old.rehearsal.committee) table.old post.old self.old.line.bytes.items byte).stage else option_map stage_of self.old.rehearsal.committee) }
-        ensures table { table.new ≡ (if is_ok result then (heard (option_map stage_of self.old.rehearsal.committee) table.old post.old self.old.line.bytes.items byte).table else table.old) }
-        ensures post { post.new ≡ (if is_ok result then (heard (option_map stage_of self.old.rehearsal.committee) table.old post.old self.old.line.bytes.items byte).post else post.old) }
-        ensures line { self.new.line.bytes.items ≡ (if is_ok result then (heard (option_map stage_of self.old.rehearsal.committee) table.old post.old self.old.line.bytes.items byte).line else self.old.line.bytes.items) }
+        ensures { let was = scene_of self.old table.old post.old in Makes result was (heard was.stage was.table was.post was.line byte) (scene_of self.new table.new post.new) }
     {
         if byte == b'\n' {
             return self.answer(heap, table, post);
@@ -58,11 +54,7 @@ impl Player {
         table: &mut [Row],
         post: &mut [Message],
     ) -> Result<Option<Reply>, AllocError>
-        ensures reply { IfOk result (λ o. o ≡ (ended (option_map stage_of self.old.rehearsal.committee) table.old post.old (self.old.line.bytes.items)).reply) }
-        ensures stage { option_map stage_of self.new.rehearsal.committee ≡ (if is_ok result then (ended (option_map stage_of self.old.rehearsal.committee) table.old post.old (self.old.line.bytes.items)).stage else option_map stage_of self.old.rehearsal.committee) }
-        ensures table { table.new ≡ (if is_ok result then (ended (option_map stage_of self.old.rehearsal.committee) table.old post.old (self.old.line.bytes.items)).table else table.old) }
-        ensures post { post.new ≡ (if is_ok result then (ended (option_map stage_of self.old.rehearsal.committee) table.old post.old (self.old.line.bytes.items)).post else post.old) }
-        ensures line { self.new.line.bytes.items ≡ (if is_ok result then (ended (option_map stage_of self.old.rehearsal.committee) table.old post.old (self.old.line.bytes.items)).line else self.old.line.bytes.items) }
+        ensures { let was = scene_of self.old table.old post.old in Makes result was (ended was.stage was.table was.post was.line) (scene_of self.new table.new post.new) }
     {
         if self.line.is_empty() {
             return Ok(None);
@@ -77,11 +69,7 @@ impl Player {
         table: &mut [Row],
         post: &mut [Message],
     ) -> Result<Option<Reply>, AllocError>
-        ensures reply { IfOk result (λ o. o ≡ (answered_line (option_map stage_of self.old.rehearsal.committee) table.old post.old (self.old.line.bytes.items)).reply) }
-        ensures stage { option_map stage_of self.new.rehearsal.committee ≡ (if is_ok result then (answered_line (option_map stage_of self.old.rehearsal.committee) table.old post.old (self.old.line.bytes.items)).stage else option_map stage_of self.old.rehearsal.committee) }
-        ensures table { table.new ≡ (if is_ok result then (answered_line (option_map stage_of self.old.rehearsal.committee) table.old post.old (self.old.line.bytes.items)).table else table.old) }
-        ensures post { post.new ≡ (if is_ok result then (answered_line (option_map stage_of self.old.rehearsal.committee) table.old post.old (self.old.line.bytes.items)).post else post.old) }
-        ensures line { self.new.line.bytes.items ≡ (if is_ok result then (answered_line (option_map stage_of self.old.rehearsal.committee) table.old post.old (self.old.line.bytes.items)).line else self.old.line.bytes.items) }
+        ensures { let was = scene_of self.old table.old post.old in Makes result was (answered_line was.stage was.table was.post was.line) (scene_of self.new table.new post.new) }
     {
         let request = read_request(heap, self.line.as_slice())?;
         self.line.clear();

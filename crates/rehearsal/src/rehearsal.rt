@@ -1,15 +1,15 @@
 // Carrying out a script.
 ghost use Rattle.std.specs.Prelude.{◌≡◌, Some, None};
 ghost use Rattle.std.specs.Option.{option_map};
-ghost use Rattle.script.specs.declared.request.Request.TheVariants.{Carry, Open};
-ghost use Rattle.rehearsal.specs.Playing.{played, stage_of, standing_at};
+ghost use Rattle.script.specs.declared.answers.Reply.TheVariants.{Opened};
+ghost use Rattle.rehearsal.specs.Playing.{opened_by, outcome, played, stage_of, standing_at};
 
 use crate::opening::opened;
 use committee::committee::Committee;
 use mail::message::Message;
-use protocol::call::Call;
 use protocol::row::Row;
 use quorum::counting::Counting;
+use quorum::faults::FaultNumbers;
 use quorum::validity::Framed;
 use script::answers::Reply;
 use script::request::{Opening, Request};
@@ -35,60 +35,37 @@ impl Rehearsal {
         post: &mut [Message],
         request: Option<Request>,
     ) -> Reply
-        ensures reply { result ≡ (played (option_map stage_of self.old.committee) table.old post.old request).reply }
-        ensures stage { option_map stage_of self.new.committee ≡ (played (option_map stage_of self.old.committee) table.old post.old request).stage }
-        ensures table { table.new ≡ (played (option_map stage_of self.old.committee) table.old post.old request).table }
-        ensures post { post.new ≡ (played (option_map stage_of self.old.committee) table.old post.old request).post }
+        ensures { outcome result self.new.committee table.new post.new ≡ played (option_map stage_of self.old.committee) table.old post.old request }
     {
-        match request {
-            None => Reply::Wrong,
-            Some(Request::Open(opening)) => self.open(table, post, opening),
-            Some(Request::Carry(call)) => self.carry_out(table, post, call),
-        }
-    }
-
-    // Only the first good opening is carried out.
-    fn open(&mut self, table: &mut [Row], post: &[Message], opening: Opening) -> Reply
-        ensures reply { result ≡ (played (option_map stage_of self.old.committee) table.old post.now (Some (Open opening))).reply }
-        ensures stage { option_map stage_of self.new.committee ≡ (played (option_map stage_of self.old.committee) table.old post.now (Some (Open opening))).stage }
-        ensures table { table.new ≡ (played (option_map stage_of self.old.committee) table.old post.now (Some (Open opening))).table }
-    {
-        if self.committee.is_some() {
-            return Reply::Wrong;
-        }
-        match opened(table, post, opening) {
-            Ok(committee) => {
-                self.committee = Some(committee);
-                Reply::Opened(Ok(()))
+        match (request, &mut self.committee) {
+            (Some(Request::Open(opening)), None) => Reply::Opened(self.open(table, post, opening)),
+            (Some(Request::Carry(call)), Some(committee)) => {
+                Reply::Carried(call, committee.carry_out(table, post, call))
             }
-            Err(numbers) => Reply::Opened(Err(numbers)),
+            _ => Reply::Wrong,
         }
     }
 
-    fn carry_out(&mut self, table: &mut [Row], post: &mut [Message], call: Call) -> Reply
-        ensures reply { result ≡ (played (option_map stage_of self.old.committee) table.old post.old (Some (Carry call))).reply }
-        ensures stage { option_map stage_of self.new.committee ≡ (played (option_map stage_of self.old.committee) table.old post.old (Some (Carry call))).stage }
-        ensures table { table.new ≡ (played (option_map stage_of self.old.committee) table.old post.old (Some (Carry call))).table }
-        ensures post { post.new ≡ (played (option_map stage_of self.old.committee) table.old post.old (Some (Carry call))).post }
+    // The first good opening.
+    fn open(
+        &mut self,
+        table: &mut [Row],
+        post: &[Message],
+        opening: Opening,
+    ) -> Result<(), FaultNumbers>
+        requires { self.old.committee ≡ None }
+        ensures { outcome (Opened result) self.new.committee table.new post.now ≡ opened_by opening table.old post.now }
     {
-        let Some(mut committee) = self.committee.take() else {
-            return Reply::Wrong;
-        };
-        let answer = committee.carry_out(table, post, call);
-        self.committee = Some(committee);
-        Reply::Carried(call, answer)
+        self.committee = Some(opened(table, post, opening)?);
+        Ok(())
     }
 
     // Where a run process stands.
     pub fn standing(&self, table: &[Row], post: &[Message], process: u8) -> Option<Standing>
         ensures { result ≡ standing_at (option_map stage_of self.now.committee) table.now post.now process }
     {
-        let Some(committee) = &self.committee else {
-            return None;
-        };
-        match committee.decision(table, post, process) {
-            Ok(_) => Some(Standing::of(process, &table[process as usize])),
-            Err(_) => None,
-        }
+        let committee = self.committee.as_ref()?;
+        committee.decision(table, post, process).ok()?;
+        Some(Standing::of(process, &table[process as usize]))
     }
 }

@@ -1,12 +1,12 @@
 // Carries out a script of calls: reads lines from standard input, answers each, and says at the end where each run process stands.
 #![tactic(auto)]
 
-use mail::message::{Message, SILENCE};
+use mail::message::SILENCE;
 use protocol::row::Row;
 use rehearsal::player::Player;
 use script::answers::Reply;
 use std::io;
-use std::io::{BufWriter, Read, Write};
+use std::io::{BufReader, BufWriter, Read, Write};
 use steps::rows::new_row;
 
 // The most processes, and the places of the post.
@@ -20,41 +20,25 @@ fn main(rt: HostRuntime) -> io::Result<()> {
     let mut post = vec![in heap; SILENCE; PLACES]?;
     let mut player = Player::new(heap);
     let mut out = BufWriter::new(heap, rt.stdout())?;
-    for _ in 0..u64::MAX {
-        let mut piece = [0; 4096];
-        let read = rt.stdin().read(&mut piece)?;
-        if read == 0 {
-            break;
-        }
-        for byte in &piece[0..read] {
-            let reply = player.take(heap, table.as_mut_slice(), post.as_mut_slice(), *byte)?;
-            print(&mut out, reply)?;
-        }
-        out.flush()?;
+    for byte in BufReader::new(heap, rt.stdin())?.bytes() {
+        let reply = player.take(heap, &mut table, &mut post, byte?)?;
+        print(&mut out, reply)?;
     }
-    let reply = player.end(heap, table.as_mut_slice(), post.as_mut_slice())?;
+    let reply = player.end(heap, &mut table, &mut post)?;
     print(&mut out, reply)?;
-    print_standings(&mut out, &player, table.as_slice(), post.as_slice())?;
-    out.flush()
-}
-
-fn print<W: Write>(out: &mut W, reply: Option<Reply>) -> io::Result<()> {
-    match reply {
-        Some(reply) => writeln!(out, "{reply}"),
-        None => Ok(()),
-    }
-}
-
-fn print_standings<W: Write>(
-    out: &mut W,
-    player: &Player,
-    table: &[Row],
-    post: &[Message],
-) -> io::Result<()> {
     for process in 0..32 {
-        if let Some(standing) = player.standing(table, post, process) {
+        if let Some(standing) = player.standing(&table, &post, process) {
             writeln!(out, "{standing}")?;
         }
     }
-    Ok(())
+    out.flush()
+}
+
+// Shows the reply at once.
+fn print<W: Write>(out: &mut W, reply: Option<Reply>) -> io::Result<()> {
+    let Some(reply) = reply else {
+        return Ok(());
+    };
+    writeln!(out, "{reply}")?;
+    out.flush()
 }

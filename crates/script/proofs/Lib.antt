@@ -1,3 +1,1 @@
-pub mod Cited
-pub mod Requests
 pub mod Kept

@@ -3,15 +3,18 @@
 --     done_text a             ok, and the numbers of the answer a
 --     refused_text e          no, and the four numbers of a refusal
 --     reply_text r            what is answered to a line
---     standing_of i row       where process i stands, which has this row; the decision is 0 and 0 where there is none
---     standing_text s         R, process, view, locked view, the decision's view and value
+--     standing_of i row       where process i stands, which has this row
+--     decided s               what is decided there; view 0 and value 0 where nothing is
+--     standing_text s         R, process, view, locked view, and the view and value of what is decided
 use Rattle.std.specs.Prelude.{ℕ, List, ◌++◌, Ok, Err, codes, decimal}
 use Rattle.std.specs.Option.{unwrap_or}
 use Rattle.quorum.specs.declared.faults.FaultNumbers.{FaultNumbers}
+use Rattle.quorum.specs.Numbers.{numbers_text}
 use Rattle.protocol.specs.declared.call.Answer as answers
 use Rattle.protocol.specs.declared.call.Answer.TheVariants.{Sent, Delivered, Moved, Swept}
 use Rattle.protocol.specs.declared.call.Call.{Call}
 use Rattle.protocol.specs.declared.call.Call.TheVariants.{Expire, Post, Deliver, MakeMove, Sweep}
+use Rattle.protocol.specs.declared.row.Decision.{Decision}
 use Rattle.protocol.specs.declared.row.Row.{Row}
 use Rattle.protocol.specs.Numbers.{move_number, refusal_numbers}
 use Rattle.script.specs.declared.answers.Reply.{Reply}
@@ -32,9 +35,7 @@ done_text (Moved p k) = codes "ok " ++ (decimal (move_number p) ++ (codes " " ++
 done_text (Swept s) = codes "ok " ++ (decimal s.accepted ++ (codes " " ++ (decimal s.moves ++ (codes " " ++ decimal s.stopped))))
 
 abbrev pub refused_text : FaultNumbers → List ℕ
-refused_text e =
-    codes "no " ++ (decimal e.number ++ (codes " " ++ (decimal e.layer
-    ++ (codes " " ++ (decimal e.place ++ (codes " " ++ decimal e.slot))))))
+refused_text e = codes "no " ++ numbers_text e
 
 abbrev pub reply_text : Reply → List ℕ
 reply_text Wrong = codes "? no"
@@ -45,9 +46,12 @@ reply_text (Carried call (Err e)) = letter_text call ++ (codes " " ++ refused_te
 
 abbrev pub standing_of : ℕ → Row → Standing
 standing_of i row =
-    record { process = i; view = row.ballot.view; locked = row.lock.view; decision = unwrap_or row.decision (record { view = 0; value = 0 }) }
+    record { process = i; view = row.ballot.view; locked = row.lock.view; decision = row.decision }
+
+abbrev pub decided : Standing → Decision
+decided s = unwrap_or s.decision (record { view = 0; value = 0 })
 
 abbrev pub standing_text : Standing → List ℕ
 standing_text s =
     codes "R " ++ (decimal s.process ++ (codes " " ++ (decimal s.view ++ (codes " " ++ (decimal s.locked
-    ++ (codes " " ++ (decimal s.decision.view ++ (codes " " ++ decimal s.decision.value))))))))
+    ++ (codes " " ++ (decimal (decided s).view ++ (codes " " ++ decimal (decided s).value))))))))

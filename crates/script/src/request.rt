@@ -2,7 +2,7 @@
 use protocol::call::Call;
 
 // An opening by counting.
-#[derive(Clone, Copy)]
+#[derive(Clone, Copy, PartialEq, Eq, Debug)]
 pub struct Opening {
     pub faults: u8,
     // Bit i is set where process i is foreign.
@@ -11,7 +11,7 @@ pub struct Opening {
     pub first: u32,
 }
 
-#[derive(Clone, Copy)]
+#[derive(Clone, Copy, PartialEq, Eq, Debug)]
 pub enum Request {
     Open(Opening),
     Carry(Call),

@@ -5,13 +5,12 @@ ghost use Rattle.script.specs.Texts.{standing_of, standing_text};
 use protocol::row::{Decision, Row};
 use std::fmt;
 
-#[derive(Clone, Copy)]
+#[derive(Clone, Copy, PartialEq, Eq, Debug)]
 pub struct Standing {
     pub process: u8,
     pub view: u32,
     pub locked: u32,
-    // 0 and 0 where nothing is decided.
-    pub decision: Decision,
+    pub decision: Option<Decision>,
 }
 
 impl Standing {
@@ -22,7 +21,7 @@ impl Standing {
             process,
             view: row.ballot.view,
             locked: row.lock.view,
-            decision: row.decision.unwrap_or(Decision { view: 0, value: 0 }),
+            decision: row.decision,
         }
     }
 }
@@ -30,12 +29,18 @@ impl Standing {
 impl fmt::Display for Standing {
     ghost output = { λ s. Some (standing_text s) };
 
+    // Prints 0 and 0 where nothing is decided.
     fn fmt<W: fmt::Write>(&self, f: &mut fmt::Formatter<W>) -> fmt::Result {
-        let process = self.process;
-        let view = self.view;
-        let locked = self.locked;
-        let decided = self.decision.view;
-        let value = self.decision.value;
+        let Standing {
+            process,
+            view,
+            locked,
+            decision,
+        } = *self;
+        let Decision {
+            view: decided,
+            value,
+        } = decision.unwrap_or(Decision { view: 0, value: 0 });
         write!(f, "R {process} {view} {locked} {decided} {value}")
     }
 }
