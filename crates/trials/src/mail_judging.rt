@@ -1,6 +1,7 @@
 // The judging of mail, in posts of any content. There are four processes, by counting.
 use mail::certificate::judge_certificate;
 use mail::message::Message;
+use mail::place::Reading;
 use mail::proposal::judge_proposal;
 use mail::report::judge_report;
 use quorum::counting::Counting;
@@ -10,11 +11,7 @@ use std::test::Fail;
 
 fn message(sender: u8, kind: u8, view: u32, value: u64, locked: u32, cited: [u16; 5]) -> Message {
     let mut citations = [0; 32];
-    citations[0] = cited[0];
-    citations[1] = cited[1];
-    citations[2] = cited[2];
-    citations[3] = cited[3];
-    citations[4] = cited[4];
+    citations[..5].copy_from_slice(&cited);
     Message {
         sender,
         kind,
@@ -59,13 +56,14 @@ fn report(
     locked: u32,
     cited: [u16; 5],
 ) -> (u8, u16, u8) {
-    match judge_report(
-        rule,
-        &hostile(),
+    let post = hostile();
+    let reading = Reading {
+        post: &post,
         count,
-        &message(1, 2, view, value, locked, cited),
-        12,
-    ) {
+        size: 4,
+    };
+    let judged = message(1, 2, view, value, locked, cited);
+    match judge_report(rule, &reading, &judged, 12) {
         Ok(()) => (0, 0, 0),
         Err(fault) => short(fault.numbers()),
     }
@@ -115,8 +113,18 @@ fn reports(rt: HostRuntime) -> Result<(), Fail> {
 fn certificates(rt: HostRuntime) -> Result<(), Fail> {
     let rule = Counting::new(1)?;
     let post = hostile();
-    assert!(rt; judge_certificate(&rule, &post, 11, &post[7], 8).is_ok());
-    match judge_certificate(&rule, &[], 65_535, &post[7], 8) {
+    let reading = Reading {
+        post: &post,
+        count: 11,
+        size: 4,
+    };
+    assert!(rt; judge_certificate(&rule, &reading, &post[7], 8).is_ok());
+    let empty = Reading {
+        post: &[],
+        count: 65_535,
+        size: 4,
+    };
+    match judge_certificate(&rule, &empty, &post[7], 8) {
         Ok(()) => Err(Fail::new("a certificate from an empty post")),
         Err(fault) => {
             assert_eq!(rt; short(fault.numbers()), (21, 8, 0));
@@ -128,14 +136,14 @@ fn certificates(rt: HostRuntime) -> Result<(), Fail> {
 // What a proposal is refused with, judged at place 12; 0 where it is safe. The values from 1 to 9 are valid.
 fn proposal(rule: &Counting, sender: u8, view: u32, value: u64, cited: [u16; 5]) -> (u8, u16, u8) {
     let validity = Framed { frame: 0, limit: 9 };
-    match judge_proposal(
-        rule,
-        &validity,
-        &hostile(),
-        11,
-        &message(sender, 3, view, value, 0, cited),
-        12,
-    ) {
+    let post = hostile();
+    let reading = Reading {
+        post: &post,
+        count: 11,
+        size: 4,
+    };
+    let judged = message(sender, 3, view, value, 0, cited);
+    match judge_proposal(rule, &validity, &reading, &judged, 12) {
         Ok(()) => (0, 0, 0),
         Err(fault) => short(fault.numbers()),
     }

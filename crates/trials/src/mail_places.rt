@@ -1,8 +1,9 @@
 // Places of hostile posts, leaders, and the tests of places.
 use mail::held::{Held, HeldValue};
+use mail::kind::{Kind, UnknownKind};
 use mail::leader::{is_leader, leader};
 use mail::message::Message;
-use mail::place::message_at;
+use mail::place::Reading;
 use quorum::tally::tally;
 
 const fn wish(sender: u8, kind: u8, value: u64) -> Message {
@@ -26,7 +27,12 @@ fn value_at(count: u16, size: u8, place: u16) -> u64 {
         wish(0, 6, 5),
         wish(255, 255, 6),
     ];
-    message_at(&post, count, size, place).value
+    let reading = Reading {
+        post: &post,
+        count,
+        size,
+    };
+    reading.at(place).value
 }
 
 // Count, size and place, and the value that is read: 0 where there is no message.
@@ -60,6 +66,15 @@ fn reads(rt: HostRuntime) {
 }
 
 #[test]
+fn kinds(rt: HostRuntime) {
+    assert_eq!(rt; Kind::try_from(0), Err(UnknownKind(0)));
+    assert_eq!(rt; Kind::try_from(1), Ok(Kind::Wish));
+    assert_eq!(rt; Kind::try_from(5), Ok(Kind::Committed));
+    assert_eq!(rt; Kind::try_from(6), Err(UnknownKind(6)));
+    assert_eq!(rt; Kind::Committed.number(), 5);
+}
+
+#[test]
 fn leaders(rt: HostRuntime) {
     assert_eq!(rt; leader(4, 0), None);
     assert_eq!(rt; leader(4, 1), Some(0));
@@ -78,19 +93,14 @@ fn tests_of_places(rt: HostRuntime) {
     let post = [wish(0, 1, 7), wish(1, 1, 8), wish(9, 1, 7)];
     let places = [1, 0, 2, 3, 9];
     assert_eq!(rt; tally(&places, &Held).bits, 0b11101);
-    let seven = HeldValue {
+    let reading = Reading {
         post: &post,
         count: 3,
         size: 4,
-        value: 7,
     };
+    let seven = HeldValue { reading, value: 7 };
     assert_eq!(rt; tally(&places, &seven).bits, 0b00001);
     // a held place without a message has the value 0
-    let zero = HeldValue {
-        post: &post,
-        count: 3,
-        size: 4,
-        value: 0,
-    };
+    let zero = HeldValue { reading, value: 0 };
     assert_eq!(rt; tally(&places, &zero).bits, 0b11000);
 }

@@ -30,17 +30,17 @@ fn play(rt: &impl Abort, heap: Global, script: &Script) -> Result<(), Fail> {
     let mut player = Player::new(heap);
     for line in script.lines {
         for byte in line.0 {
-            let reply = player.take(heap, table.as_mut_slice(), post.as_mut_slice(), *byte)?;
+            let reply = player.take(heap, &mut table, &mut post, *byte)?;
             assert!(rt; reply.is_none());
         }
-        let reply = player.take(heap, table.as_mut_slice(), post.as_mut_slice(), b'\n')?;
+        let reply = player.take(heap, &mut table, &mut post, b'\n')?;
         assert!(rt; reply.is_some());
         let answer = format!(in heap; "{}", reply.unwrap_or(Reply::Wrong))?;
         assert_eq!(rt; answer.as_str(), line.1);
     }
     let mut standings = String::new(heap);
     for process in 0..32 {
-        if let Some(standing) = player.standing(table.as_slice(), post.as_slice(), process) {
+        if let Some(standing) = player.standing(&table, &post, process) {
             let text = format!(in heap; "{standing}\n")?;
             standings.push_str(text.as_str())?;
         }

@@ -69,10 +69,8 @@ fn of_lists_past_the_processes(rt: HostRuntime) -> Result<(), Fail> {
 
 // The wishes with view 9 in the slots of a range.
 fn wished(mut wishes: [u32; 40], from: usize, to: usize) -> [u32; 40] {
-    for j in from..to {
-        if j < 40 {
-            wishes[j] = 9;
-        }
+    for wish in wishes.iter_mut().take(to).skip(from) {
+        *wish = 9;
     }
     wishes
 }

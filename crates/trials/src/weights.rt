@@ -51,18 +51,20 @@ fn numbers(rt: HostRuntime) -> Result<(), Fail> {
     match rule.replace(&[0, 0, 1_000_001]) {
         Ok(()) => Err(Fail::new("a weight that is too large")),
         Err(fault) => {
-            assert_eq!(rt;
-                fault.numbers(),
-                FaultNumbers {
-                    number: 18,
-                    layer: 4,
-                    place: 0,
-                    slot: 2,
-                }
-            );
+            assert_eq!(rt; fault.numbers(), FaultNumbers::new(18, 4, 0, 2));
             Ok(())
         },
     }
+}
+
+#[test]
+fn rules_of_lists(rt: HostRuntime) -> Result<(), Fail> {
+    let rule = Weights::new(&[5, 1, 1, 1])?;
+    assert_eq!(rt; rule.size(), 4);
+    assert_eq!(rt; rule.is_quorum(ProcessSet { bits: 0b0011 }), true);
+    assert_eq!(rt; rule.is_quorum(ProcessSet { bits: 0b1110 }), false);
+    assert!(rt; Weights::new(&[0, 0]).is_err());
+    Ok(())
 }
 
 // Whether the set is a quorum of the rule by these weights, and whether it is blocking.
