@@ -2,6 +2,8 @@
 #![tactic(auto)]
 
 #[cfg(test)]
+mod committees;
+#[cfg(test)]
 mod counting;
 #[cfg(test)]
 mod lines;
