@@ -14,7 +14,7 @@ module _ (m : Rule) (M : ℕ → Message) (places : List ℕ) (v a k s : ℕ) (s
   abbrev judged : Option CertificateFault
   judged = certificate_fault m M places v a k
 
-  abbrev vote : ℕ → Option CertificateFault
+  abbrev pub vote : ℕ → Option CertificateFault
   vote = vote_fault M places v a k
 
   pub by_quorum : (e : CertificateFault) → fault_if (not b) (NoQuorum k) ≡ Some e → judged ≡ Some e

@@ -3,7 +3,7 @@
 --     none_below, below_none      no fault below n: none at each slot, and back
 --     both_none, none_both        no fault in two tests
 --     faultless, holds_then       no fault: the test fails, or the fact that is asked for holds
---     none_from_ok, some_from_err     what an answer tells
+--     none_from_ok, ok_value, some_from_err     what an answer tells
 --     exits                       what is answered where a `?` leaves
 use Rattle.std.proofs.Common.{◌≡◌, ℕ, zero, suc, ◌+◌, ◌<◌, ◌≤◌, Bool, true, false, not, IsErrAnd, Some, None, Ok, Err, Option, Result, refl, ⊎_elim, add-one, arith}
 use Rattle.std.proofs.lemmas.Result.{err_from_is_err_and}
@@ -14,6 +14,10 @@ module _ {F X : Type 0} where
   pub none_from_ok : (o : Option F) (x y : X) → Ok y ≡ answered o x → o ≡ None
   none_from_ok None x y h = refl
   none_from_ok (Some e) x y h = cc
+
+  pub ok_value : (o : Option F) (x y : X) → Ok y ≡ answered o x → y ≡ x
+  ok_value None x y h = cc
+  ok_value (Some e) x y h = cc
 
   pub some_from_err : (o : Option F) (x : X) (e : F) → Err e ≡ answered o x → o ≡ Some e
   some_from_err None x e h = cc

@@ -1,6 +1,7 @@
 -- Lists of weights. Assumes nothing.
 --     by_weight, by_total      which fault is the first
 --     Load xs, load            what holds of a list without a fault
+--     lightened                no process is too heavy in it
 use Rattle.std.proofs.Common.{◌≡◌, ℕ, ◌<◌, ◌≤◌, min, ◌&&◌, leb, List, length, Some, None, Option, ⊎_elim, arith}
 use Rattle.std.proofs.lemmas.List.{get_or_past}
 use Rattle.std.proofs.lemmas.Bool.{leb-true, ltb-false, eqb-false, and_parts, not-false, cases_lt}
@@ -44,7 +45,7 @@ module _ (xs : List ℕ) where
     pub light : (j : ℕ) → weight_at xs j ≤ 1000000
     pub weighty : 1 ≤ total_of xs
 
-  lightened : first_below heavy (length xs) ≡ None → (j : ℕ) → weight_at xs j ≤ 1000000
+  pub lightened : first_below heavy (length xs) ≡ None → (j : ℕ) → weight_at xs j ≤ 1000000
   lightened h j =
       ⊎_elim (λ (l : j < length xs). enough (weight_at xs j) j (none_below heavy (length xs) h j l))
       (λ (g : length xs ≤ j). let z = get_or_past xs j 0 g in omega arith)

@@ -1,4 +1,5 @@
 pub mod Kindless
+pub mod Senders
 pub mod LockValues
 pub mod Planning
 pub mod Backings
