@@ -14,7 +14,7 @@ pub trait EntryTest<E> {
 }
 
 // Every process that there can be.
-pub(crate) fn processes() -> Range<u8>
+fn processes() -> Range<u8>
     ensures { result ≡ record { start = 0; end = 32 } }
 {
     0..32

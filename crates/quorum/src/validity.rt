@@ -1,5 +1,5 @@
 // Which values may be proposed.
-ghost use Rattle.std.specs.Prelude.{◌≡◌, ℕ, Bool};
+ghost use Rattle.std.specs.Prelude.{◌≡◌, ℕ, Bool, ◌==◌};
 ghost use Rattle.quorum.specs.Validity.{listed, framed};
 
 pub trait ValidityRule {
@@ -18,10 +18,15 @@ pub struct Allowed<'a> {
 impl<'a> ValidityRule for Allowed<'a> {
     ghost valid = { λ rule. listed rule.values.now };
 
-    #[tactic(auto, using(crate::proofs::Listing::listed_any))]
     fn is_valid(&self, value: u64) -> bool {
-        self.values.contains(&value)
+        self.values.iter().any(|allowed| is_same(*allowed, value))
     }
+}
+
+fn is_same(allowed: u64, value: u64) -> bool
+    ensures { result ≡ (allowed == value) }
+{
+    allowed == value
 }
 
 // The values whose upper 32 bits are the frame and whose lower 32 bits are from 1 to the limit.

@@ -7,7 +7,6 @@ ghost use Rattle.quorum.specs.WeightList.{weight_at, total_of, weights_rule, wei
 
 use crate::faults::RuleFault;
 use crate::rules::QuorumRule;
-use crate::tally::processes;
 use sets::process_set::ProcessSet;
 
 #[derive(Clone, Copy, PartialEq, Eq, Debug)]
@@ -29,7 +28,7 @@ impl<'a> Weights<'a> {
     {
         check_count(list.len())?;
         let mut total = 0;
-        for (process, weight) in processes().zip(list) {
+        for (process, weight) in (0..32).zip(list) {
             check_weight(*weight, process)?;
             total += *weight;
         }
@@ -63,7 +62,7 @@ impl<'a> Weights<'a> {
         ensures { result ≡ weight (length self.now.list.now) (weight_at self.now.list.now) set.bits }
     {
         let mut sum = 0;
-        for (process, weight) in processes().zip(self.list) {
+        for (process, weight) in (0..32).zip(self.list) {
             if set.contains(process) {
                 sum += *weight;
             }

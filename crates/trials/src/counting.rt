@@ -55,7 +55,15 @@ fn refusals(rt: HostRuntime) -> Result<(), Fail> {
     for f in [11, 12, 255] {
         match Counting::new(f) {
             Ok(_) => return Err(Fail::new("a rule with too many faults")),
-            Err(fault) => assert_eq!(rt; fault.numbers(), FaultNumbers::new(16, 4, 0, 32)),
+            Err(fault) => assert_eq!(rt;
+                fault.numbers(),
+                FaultNumbers {
+                    number: 16,
+                    layer: 4,
+                    place: 0,
+                    slot: 32,
+                }
+            ),
         }
     }
     Ok(())

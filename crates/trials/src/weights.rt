@@ -51,7 +51,15 @@ fn numbers(rt: HostRuntime) -> Result<(), Fail> {
     match rule.replace(&[0, 0, 1_000_001]) {
         Ok(()) => Err(Fail::new("a weight that is too large")),
         Err(fault) => {
-            assert_eq!(rt; fault.numbers(), FaultNumbers::new(18, 4, 0, 2));
+            assert_eq!(rt;
+                fault.numbers(),
+                FaultNumbers {
+                    number: 18,
+                    layer: 4,
+                    place: 0,
+                    slot: 2,
+                }
+            );
             Ok(())
         },
     }

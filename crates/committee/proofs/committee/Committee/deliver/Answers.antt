@@ -10,6 +10,6 @@ returns g c =
     let n = none_from_ok _ _ _ c.in_ok-check_lent.ensures in
     let m = none_from_ok _ _ _ c.in_ok-check_run.ensures in
     record {
-      answer = by_answer S s c.args.process c.args.place n m _ (rw (c.reading.ensures.size, c.reading.ensures.post, c.reading.ensures.count) at c.give.ensures.answer);
-      table = by_row S s c.args.process c.args.place n m _ (rw (c.reading.ensures.size, c.reading.ensures.post, c.reading.ensures.count) at c.give.ensures.after);
+      answer = by_answer S s c.args.process c.args.place n m _ c.give_to.ensures.answer;
+      table = by_row S s c.args.process c.args.place n m _ c.give_to.ensures.after;
     }
